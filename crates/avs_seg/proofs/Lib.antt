@@ -1,1 +1,12 @@
-
+pub mod Blocks
+pub mod Puts
+pub mod Ranges
+pub mod Changes
+pub mod Mixes
+pub mod Kept
+pub mod Bytes
+pub mod Fills
+pub mod Exits
+pub mod Cuts
+pub mod Touch
+pub mod Differ

@@ -18,13 +18,13 @@ block_at img i = slice_index_or img i []
 unfoldable pub tabulate : ℕ → (ℕ → Block) → Image
 tabulate n f = map f (range_with_len 0 n)
 
--- n times the same block
-abbrev pub blocks_of_block : ℕ → Block → Image
-blocks_of_block n block = replicate n block
+-- a block of zeros
+unfoldable pub zero_block : Block
+zero_block = replicate 512 0
 
 -- n blocks of zeros
 abbrev pub blank : ℕ → Image
-blank n = replicate n (replicate 512 0)
+blank n = replicate n zero_block
 
 -- i is one of the n places from at on
 abbrev pub is_inside : ℕ → ℕ → ℕ → Bool

@@ -1,3 +1,4 @@
 pub mod Image
 pub mod Segment
 pub mod Causes
+pub mod Lines

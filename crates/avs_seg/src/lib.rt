@@ -3,6 +3,8 @@
 
 mod fault;
 mod segment;
+#[cfg(test)]
+mod tests;
 
 pub use fault::{Failed, NoMemory};
 pub use segment::{BLOCK, SEGMENT, SegList, Span, seg_count, seg_span, segments};

@@ -12,7 +12,7 @@ pub const BLOCK: usize = 512;
 /// The blocks of a segment.
 pub const SEGMENT: u32 = 64;
 
-/// A range of blocks.
+/// A range of `len` blocks, from block `at` on.
 #[derive(Clone, Copy, Debug, PartialEq, Eq)]
 pub struct Span {
     pub at: u32,
@@ -52,7 +52,7 @@ pub fn seg_span(seg: u32, blocks: u32) -> Span
     }
 }
 
-/// A list of segments.
+/// A list of segments, in the order in which they were added.
 #[derive(Debug, Drop)]
 pub struct SegList {
     segs: Vec<u32>,
@@ -65,10 +65,13 @@ impl Model for SegList {
 }
 
 impl SegList {
+    /// A list without segments, which takes no memory.
     pub fn new(alloc: Global) -> SegList
         ensures { result ≡ [] }
     {
-        SegList { segs: Vec::new(alloc) }
+        SegList {
+            segs: Vec::new(alloc),
+        }
     }
 
     /// Adds a segment at the end. Without memory the list stays as it was.
@@ -80,6 +83,7 @@ impl SegList {
         Ok(())
     }
 
+    /// The segments, first the one that was added first.
     pub fn as_slice(&self) -> &[u32]
         ensures { result.now ≡ self.now }
     {

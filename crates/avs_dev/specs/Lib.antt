@@ -1,0 +1,4 @@
+pub mod Seen
+pub mod Rack
+pub mod Memory
+pub mod MemRacks

@@ -1,0 +1,31 @@
+-- What contracts see of a rack, and the disks that it makes.
+use Rattle.std.specs.Prelude.{◌≡◌, ℕ, ◌≤◌, Bool, false, [], if◌then◌else◌, Result, Err, IfOk}
+use Rattle.avs_seg.specs.Image.{blank}
+use Rattle.avs_seg.specs.Causes.{Rose}
+use Rattle.avs_dev.specs.Seen.{Seen}
+use Rattle.avs_dev.specs.declared.rack.RackFault.{RackFault}
+use Rattle.avs_dev.specs.declared.rack.RackFault.TheVariants.{Refused}
+
+-- a rack: how often it has refused, whether its disks tell their blocks, and whether they are steady
+pub record RackSeen : Type 0 where
+  pub faults : ℕ
+  pub tells : Bool
+  pub steady : Bool
+
+-- a disk that it makes: zeros in every block, nothing written, no fault and no tear armed
+abbrev pub new_disk : RackSeen → ℕ → Seen
+new_disk rack blocks = record {
+  image = if rack.tells then blank blocks else [];
+  size = blocks;
+  faults = 0;
+  written = 0;
+  steady = rack.steady;
+  armed = false;
+}
+
+-- the disk made is such a one, and the rack refuses only where its faults rose
+pub record Makes {D : Type 0} (seen : D → Seen) (old : RackSeen) (blocks : ℕ) (result : Result D RackFault) (new : RackSeen) : Type 0 where
+  pub rest : new ≡ record old { faults = new.faults }
+  pub later : old.faults ≤ new.faults
+  pub made : IfOk result (λ d. seen d ≡ new_disk old blocks)
+  pub refused : result ≡ Err Refused → Rose old.faults new.faults

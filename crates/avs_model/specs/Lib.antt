@@ -1,0 +1,15 @@
+pub mod Filling
+pub mod Limits
+pub mod Names
+pub mod Words
+pub mod Script
+pub mod Fits
+pub mod Printed
+pub mod State
+pub mod Refusals
+pub mod Stages
+pub mod Right
+pub mod Next
+pub mod Good
+pub mod Tallies
+pub mod Promise

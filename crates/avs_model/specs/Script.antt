@@ -1,0 +1,91 @@
+-- The events of a script.
+use Rattle.std.specs.Prelude.{ℕ, ◌+◌, Bool, true, false, ◌&&◌, ◌==◌, nat_le, nat_lt, Option, None, Some, List, [], ◌∷◌, length, if◌then◌else◌}
+use Rattle.std.specs.Option.{option_map, option_and_then}
+use Rattle.std.specs.Str.{bytes_eq}
+use lib.Chars.{codes}
+use Rattle.avs_seg.specs.Lines.{line_limit}
+use Rattle.avs_model.specs.Limits.{least_volume, longest_write, longest_read}
+use Rattle.avs_model.specs.Names.{host_named, volume_named}
+use Rattle.avs_model.specs.Words.{words_of, number, pattern}
+use Rattle.avs_model.specs.declared.event.Host.{Host}
+use Rattle.avs_model.specs.declared.event.Host.TheVariants.{P, S}
+use Rattle.avs_model.specs.declared.event.Event.{Event}
+use Rattle.avs_model.specs.declared.event.Event.TheVariants.{Volume, Write, Read}
+use Rattle.avs_model.specs.declared.event.Statement.{Statement}
+use Rattle.avs_model.specs.declared.event.Statement.TheVariants.{Nothing, Run}
+
+-- H V, and what the words behind them make of the two
+abbrev pub at_volume : List ℕ → List ℕ → (Host → List ℕ → Option Event) → Option Event
+at_volume host volume event = option_and_then (λ h. option_and_then (λ v. event h v) (volume_named volume)) (host_named host)
+
+-- `volume H V N`
+abbrev pub volume_event : List (List ℕ) → Option Event
+volume_event (host ∷ volume ∷ blocks ∷ []) = at_volume host volume (λ h v. option_map (λ n. Volume h v n) (number blocks))
+volume_event words = None
+
+-- `write H V AT LEN HEX`
+abbrev pub write_event : List (List ℕ) → Option Event
+write_event (host ∷ volume ∷ at ∷ len ∷ hex ∷ []) =
+    at_volume host volume (λ h v. option_and_then (λ a. option_and_then (λ n. option_map (λ p. Write h v a n p) (pattern hex)) (number len)) (number at))
+write_event words = None
+
+-- `read H V AT LEN`
+abbrev pub read_event : List (List ℕ) → Option Event
+read_event (host ∷ volume ∷ at ∷ len ∷ []) =
+    at_volume host volume (λ h v. option_and_then (λ a. option_map (λ n. Read h v a n) (number len)) (number at))
+read_event words = None
+
+-- the event that a first word and the words behind it are
+abbrev pub words_event : List ℕ → List (List ℕ) → Option Event
+words_event word words =
+    if bytes_eq word (codes "volume") then volume_event words
+    else (if bytes_eq word (codes "write") then write_event words else (if bytes_eq word (codes "read") then read_event words else None))
+
+-- the event that the words of a line are, in any form
+abbrev pub event_of : List (List ℕ) → Option Event
+event_of [] = None
+event_of (word ∷ words) = words_event word words
+
+abbrev pub is_p : Host → Bool
+is_p P = true
+is_p S = false
+
+-- the forms that there are so far
+abbrev pub built : Event → Bool
+built (Volume host volume blocks) = is_p host && nat_le least_volume blocks
+built (Write host volume at len bytes) = is_p host && (nat_le 1 len && (nat_le len longest_write && length bytes == 1))
+built (Read host volume at len) = is_p host && (nat_le 1 len && nat_le len longest_read)
+
+-- the event, if its form is there
+abbrev pub if_built : Event → Option Event
+if_built event = if built event then Some event else None
+
+-- a line without words, or whose first word begins with `#`, is no event
+abbrev pub words_statement : List (List ℕ) → Option Statement
+words_statement [] = Some Nothing
+words_statement ([] ∷ words) = None
+words_statement ((b ∷ word) ∷ words) = if b == 35 then Some Nothing else option_map Run (option_and_then if_built (words_event (b ∷ word) words))
+
+-- what a line says, if it is a statement
+abbrev pub statement : List ℕ → Option Statement
+statement line = if nat_lt line_limit (length line) then None else words_statement (words_of line)
+
+-- the events of lines up to the first that is no statement, and that line's number
+pub record Script : Type 0 where
+  pub events : List Event
+  pub bad : Option ℕ
+
+-- a line of that number, in front of a script
+abbrev pub with_line : ℕ → Option Statement → Script → Script
+with_line at None rest = record { events = []; bad = Some at }
+with_line at (Some Nothing) rest = rest
+with_line at (Some (Run event)) rest = record { events = event ∷ rest.events; bad = rest.bad }
+
+-- the script of lines, of which the first has that number
+abbrev pub script_from : ℕ → List (List ℕ) → Script
+script_from at [] = record { events = []; bad = None }
+script_from at (line ∷ lines) = with_line at (statement line) (script_from (at + 1) lines)
+
+-- the script of lines, counted from 1
+abbrev pub script : List (List ℕ) → Script
+script lines = script_from 1 lines

@@ -1,0 +1,16 @@
+//! What the suite speaks of: events, answers and refusals, and in `specs/` what they mean.
+#![tactic(auto)]
+
+mod answer;
+mod blocks;
+mod entry;
+mod event;
+mod pattern;
+mod tap;
+
+pub use answer::{Answer, Refusal};
+pub use blocks::Blocks;
+pub use entry::{Entry, EntryKind, Full, Limits};
+pub use event::{Event, Host, Name, Statement};
+pub use pattern::Pattern;
+pub use tap::{Io, Tally, Tap, Verdict};

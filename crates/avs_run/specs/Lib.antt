@@ -1,0 +1,6 @@
+pub mod World
+pub mod Faults
+pub mod Ends
+pub mod Run
+pub mod Cuts
+pub mod Bad

@@ -1,0 +1,6 @@
+pub mod FillLemmas
+pub mod Numerals
+pub mod Patterns
+pub mod Places
+pub mod RunLemmas
+pub mod WordsOf
