@@ -72,7 +72,7 @@ fn check(
 
 #[test]
 fn scripts_are_answered(rt: HostRuntime) -> Result<(), Fail> {
-    let cases: [(&[u8], u8, &[u8]); 24] = [
+    let cases: [(&[u8], u8, &[u8]); 23] = [
         (b"", 0, b""),
         (ROW, 0, ANSWERS),
         (b"# a comment\n\n \t\r\n", 0, b""),
@@ -82,11 +82,6 @@ fn scripts_are_answered(rt: HostRuntime) -> Result<(), Fail> {
             b"volume p /v/a 64\nvolume p /v/a 65\nvolume p /v/b 262144\nvolume p /v/c 262145\n",
             0,
             b"ok\nrefused Exists\nok\nrefused Limit 262144\n",
-        ),
-        (
-            b"volume p /a 262144\nvolume p /b 262144\nvolume p /c 262144\nvolume p /d 262080\nvolume p /e 65\nvolume p /e 64\nvolume p /f 64\n",
-            0,
-            b"ok\nok\nok\nok\nrefused Limit 1048576\nok\nrefused Limit 1048576\n",
         ),
         (b"volume p /v/a 64\nfrob\n", 3, b"ok\nbad line 2\n"),
         (b"#\n\nvolume s /v/a 64\n", 3, b"bad line 3\n"),
@@ -159,6 +154,14 @@ fn scripts_are_answered(rt: HostRuntime) -> Result<(), Fail> {
         }
     }
     Ok(())
+}
+
+#[test]
+fn volumes_have_a_most_of_blocks_together(rt: HostRuntime) -> Result<(), Fail> {
+    let script =
+        b"volume p /a 262144\nvolume p /b 262144\nvolume p /c 262144\nvolume p /d 262080\nvolume p /e 65\nvolume p /e 64\nvolume p /f 64\n";
+    let want = b"ok\nok\nok\nok\nrefused Limit 1048576\nok\nrefused Limit 1048576\n";
+    check(&rt, rt.alloc(), script, FAIR, 0, want)
 }
 
 // A line of so many bytes that begins with `#`, and then a volume.

@@ -4,7 +4,7 @@ use Rattle.std.proofs.lemmas.Bool.{false≢true}
 use Rattle.std.proofs.lemmas.List.{append-nil}
 use Rattle.std.proofs.lemmas.List.Elements.{All-push}
 use Rattle.std.specs.Io.KnownBytes.{prepend_known, IsAtEnd}
-use Rattle.avs_io.specs.Bytes.{WhereTold}
+use Rattle.avs_io.specs.Told.{WhereTold}
 use Rattle.avs_seg.specs.Lines.{line_feed, line_limit, HasNoFeed, lines_of, with_feeds}
 use Rattle.avs_io.specs.Reader.{Reader}
 use Rattle.avs_io.specs.Next.{GivesLine, EndsByFeed, EndsByEnd, MeetsLong, MeetsEnd, MeetsLimit, IsCut, FirstIsLong, Gives, Breaks}

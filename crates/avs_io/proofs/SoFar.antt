@@ -2,7 +2,7 @@
 use Rattle.std.proofs.Common.{◌≡◌, inl, inr, ℕ, ◌+◌, ◌≤◌, ◌<◌, List, [], ◌∷◌, ◌++◌, Option, Some, None, length, refl, sym, ◌∙◌, ap, subst, append_assoc, length-append, arith}
 use Rattle.std.proofs.lemmas.Option.{none-some, same_Some}
 use Rattle.std.specs.Io.KnownBytes.{prepend_known, IsAtEnd}
-use Rattle.avs_io.specs.Bytes.{WhereTold}
+use Rattle.avs_io.specs.Told.{WhereTold}
 use Rattle.avs_seg.specs.Lines.{line_feed, line_limit, lines_limit, HasNoFeed, lines_of}
 use Rattle.avs_io.specs.Reader.{Reader}
 use Rattle.avs_io.specs.Next.{GivesLine, Loses, MeetsLong, MeetsLimit, IsCut, FirstIsLong}

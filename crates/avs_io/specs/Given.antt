@@ -1,7 +1,7 @@
 -- The lines that a reader has given so far, of the bytes that its source had at first.
 use Rattle.std.specs.Prelude.{ℕ, ◌<◌, ◌≡◌, ◌⊎◌, ⊤, true, Option, Some, List, [], ◌∷◌, ◌++◌, length, All, Result, Ok, Err}
 use Rattle.std.specs.Io.KnownBytes.{prepend_known, IsAtEnd}
-use Rattle.avs_io.specs.Bytes.{WhereTold}
+use Rattle.avs_io.specs.Told.{WhereTold}
 use Rattle.avs_seg.specs.Lines.{HasNoFeed, line_limit, lines_limit, lines_of, whole_lines, with_feeds}
 use Rattle.avs_io.specs.Reader.{Reader}
 use Rattle.avs_io.specs.declared.lines.Next.{Next}

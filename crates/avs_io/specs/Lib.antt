@@ -1,7 +1,9 @@
 pub mod Counts
-pub mod Bytes
+pub mod Told
+pub mod Writes
 pub mod Reader
 pub mod Next
 pub mod Given
 pub mod Pieces
 pub mod Memory
+pub mod Adapters

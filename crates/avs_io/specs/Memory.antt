@@ -1,23 +1,23 @@
 -- Sources and sinks in memory, which fail at the calls that they are told.
-use Rattle.std.specs.Prelude.{ℕ, ◌-◌, ◌<◌, ◌≡◌, ◌⊎◌, ◌↔◌, List, [], length, min, drop, Contains, Result, IsErr, IfOk, is_err, if◌then◌else◌}
+use Rattle.std.specs.Prelude.{ℕ, ◌-◌, ◌<◌, ◌≤◌, ◌≡◌, ◌⊎◌, ◌↔◌, List, [], length, min, drop, Contains, Result, IsErr, IfOk, is_err, if◌then◌else◌}
 use Rattle.avs_seg.specs.declared.fault.Failed.{Failed}
 use Rattle.avs_io.specs.Counts.{one_more}
 use Rattle.avs_io.specs.declared.memory.MemSource.TheInside as source
 use Rattle.avs_io.specs.declared.memory.MemSink.TheInside as sink
 
--- which of its calls an object in memory is at, which of them fail, and how many have failed
+-- the calls of a source or a sink in memory: those that are to fail, by their numbers, and how many were made and have failed
 pub record Calls : Type 0 where
   pub fails : List ℕ
   pub made : ℕ
   pub faults : ℕ
 
--- what a source in memory has left, and gives at most in one call
+-- what a source in memory has left, and how much it gives at most in one call
 pub record Supply : Type 0 where
   pub left : List ℕ
   pub piece : ℕ
   pub calls : Calls
 
--- what a sink in memory has taken, and has room for in all
+-- what a sink in memory has taken, and how much it has room for in all
 pub record Store : Type 0 where
   pub taken : List ℕ
   pub room : ℕ
@@ -33,7 +33,7 @@ store_of s = record { taken = s.bytes.items; room = s.room; calls = record { fai
 abbrev pub no_calls : List ℕ → Calls
 no_calls fails = record { fails = fails; made = 0; faults = 0 }
 
--- the call that comes next is one that fails: they are counted from 1
+-- the call that comes next is to fail: calls are counted from 1
 abbrev pub IsListed : Calls → Type 0
 IsListed calls = Contains calls.fails (one_more calls.made)
 
@@ -51,9 +51,9 @@ pub record Supplies (old new : Supply) (room : ℕ) (result : Result ℕ Failed)
   pub piece : new.piece ≡ old.piece
   pub count : IfOk result (λ n. n ≡ min (min (length old.left) room) old.piece)
 
--- nothing of the bytes fits
+-- there are bytes, and none of them fits
 abbrev pub IsFull : Store → List ℕ → Type 0
-IsFull store bytes = (0 < length bytes) × (store.room - length store.taken ≡ 0)
+IsFull store bytes = (0 < length bytes) × (store.room ≤ length store.taken)
 
 -- a call of a sink in memory
 pub record Stores (old new : Store) (bytes : List ℕ) (result : Result ℕ Failed) : Type 0 where

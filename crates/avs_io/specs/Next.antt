@@ -1,7 +1,7 @@
 -- What a reader of lines gives next.
 use Rattle.std.specs.Prelude.{ℕ, ◌+◌, ◌<◌, ◌≤◌, ◌≡◌, ◌⊎◌, true, false, Some, List, [], ◌∷◌, ◌++◌, length}
 use Rattle.std.specs.Io.KnownBytes.{prepend_known, IsAtEnd}
-use Rattle.avs_io.specs.Bytes.{WhereTold}
+use Rattle.avs_io.specs.Told.{WhereTold}
 use Rattle.avs_seg.specs.Lines.{HasNoFeed, line_feed, line_limit, lines_limit, lines_of, whole_lines}
 use Rattle.avs_io.specs.Reader.{Reader}
 use Rattle.avs_io.specs.declared.lines.Next.{Next}
@@ -41,7 +41,7 @@ pub record Loses (old new : Reader) (part : List ℕ) : Type 0 where
   pub no_feed : HasNoFeed part
   pub bytes : old.rest ≡ prepend_known part new.rest
 
--- the next line is too long: that many of its bytes were taken
+-- the next line is longer than a line may be: so many of its bytes were taken
 pub record MeetsLong (old new : Reader) : Type 0 where
   pub below_limit : old.given < lines_limit
   pub part : List ℕ
@@ -65,6 +65,7 @@ pub record MeetsLimit (old new : Reader) : Type 0 where
   pub rest : new.rest ≡ old.rest
   pub more : (before : List ℕ) → old.rest ≡ Some before → 0 < length (lines_of before)
 
+-- what `next` does where it answers
 abbrev pub Gives : Reader → Reader → Next → Type 0
 Gives old new (Line line) = GivesLine old new line
 Gives old new Long = MeetsLong old new
@@ -80,6 +81,7 @@ pub record IsCut (old new : Reader) : Type 0 where
   pub taken : (before : List ℕ) → old.rest ≡ Some before
       → (bytes after : List ℕ) × (new.left ≡ Some after) × (before ≡ bytes ++ after) × (whole_lines bytes ≡ [])
 
+-- what `next` does where it does not answer
 abbrev pub Breaks : Reader → Reader → LineFault → Type 0
 Breaks old new Read = IsCut old new
 Breaks old new NoMemory = (part : List ℕ) × Loses old new part

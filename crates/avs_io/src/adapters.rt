@@ -1,12 +1,13 @@
 // A source over a reader of std, and a sink over a writer of std.
-ghost use Rattle.std.specs.Prelude.{◌≡◌, ◌≤◌, ◌<◌, ℕ, None, length, is_err, IfOk, if◌then◌else◌};
+ghost use Rattle.std.specs.Prelude.{◌≡◌, ◌≤◌, ◌<◌, None, length, is_err, IfOk, if◌then◌else◌};
+ghost use Rattle.std.specs.Io.KnownBytes.{ReadConsumes, WriteAppends};
 ghost use Rattle.avs_seg.specs.Causes.{HasCause};
+ghost use Rattle.avs_io.specs.Adapters.{reader_in, writer_in, read_faults, write_faults};
 ghost use Rattle.avs_io.specs.Counts.{one_more};
 
 use crate::stream::{Sink, Source};
 use avs_seg::Failed;
 use std::io::{Read, Write};
-use std::marker::Model;
 
 /// A source over a reader. It tells nothing of its bytes, and each error is a fault.
 #[derive(Drop)]
@@ -15,16 +16,11 @@ pub struct Reading<R> {
     faults: u64,
 }
 
-// Its count of faults is all that is known of it.
-impl<R> Model for Reading<R> {
-    ghost Value = { ℕ };
-
-    ghost view = { λ s. s.faults };
-}
-
 impl<R: Read> Reading<R> {
+    /// A source that reads from where the reader stands.
     pub fn new(reader: R) -> Reading<R>
-        ensures { result ≡ 0 }
+        ensures reader { reader_in result ≡ reader }
+        ensures faults { read_faults result ≡ 0 }
     {
         Reading { reader, faults: 0 }
     }
@@ -33,12 +29,14 @@ impl<R: Read> Reading<R> {
 impl<R: Read> Source for Reading<R> {
     ghost left = { λ _. None };
 
-    ghost faults = { λ s. s };
+    ghost faults = { read_faults };
 
+    /// Gives what one read of the reader gives.
     fn read(&mut self, out: &mut [u8]) -> Result<usize, Failed>
         ensures bound { IfOk result (λ n. n ≤ length out.new) }
-        ensures cause { HasCause self.old self.new result }
-        ensures count { self.new ≡ (if is_err result then one_more self.old else self.old) }
+        ensures cause { HasCause (read_faults self.old) (read_faults self.new) result }
+        ensures count { read_faults self.new ≡ (if is_err result then one_more (read_faults self.old) else read_faults self.old) }
+        ensures reads { ReadConsumes (R.remaining (reader_in self.old)) (R.remaining (reader_in self.new)) result out.new }
     {
         match self.reader.read(out) {
             Ok(count) => Ok(count),
@@ -58,16 +56,11 @@ pub struct Writing<W> {
     faults: u64,
 }
 
-// Its count of faults is all that is known of it.
-impl<W> Model for Writing<W> {
-    ghost Value = { ℕ };
-
-    ghost view = { λ s. s.faults };
-}
-
 impl<W: Write> Writing<W> {
+    /// A sink that writes where the writer stands, and never flushes it.
     pub fn new(writer: W) -> Writing<W>
-        ensures { result ≡ 0 }
+        ensures writer { writer_in result ≡ writer }
+        ensures faults { write_faults result ≡ 0 }
     {
         Writing { writer, faults: 0 }
     }
@@ -76,13 +69,15 @@ impl<W: Write> Writing<W> {
 impl<W: Write> Sink for Writing<W> {
     ghost written = { λ _. None };
 
-    ghost faults = { λ s. s };
+    ghost faults = { write_faults };
 
+    /// Gives the bytes to one write of the writer.
     fn write(&mut self, bytes: &[u8]) -> Result<usize, Failed>
         ensures bound { IfOk result (λ n. n ≤ length bytes.now) }
         ensures some { IfOk result (λ n. 0 < length bytes.now → 0 < n) }
-        ensures cause { HasCause self.old self.new result }
-        ensures count { self.new ≡ (if is_err result then one_more self.old else self.old) }
+        ensures cause { HasCause (write_faults self.old) (write_faults self.new) result }
+        ensures count { write_faults self.new ≡ (if is_err result then one_more (write_faults self.old) else write_faults self.old) }
+        ensures writes { WriteAppends (W.contents (writer_in self.old)) (W.contents (writer_in self.new)) result bytes.now }
     {
         match self.writer.write(bytes) {
             Ok(count) if count > 0 || bytes.is_empty() => Ok(count),

@@ -23,6 +23,7 @@ const BUFFER: usize = 16384;
 /// What comes next.
 #[derive(Debug, Drop)]
 pub enum Next {
+    /// A line, which is counted.
     Line(LineText),
     /// The line has more than `MAX_LINE` bytes.
     Long,
@@ -35,7 +36,9 @@ pub enum Next {
 /// Why no line could be given.
 #[derive(Clone, Copy, Debug, PartialEq, Eq)]
 pub enum LineFault {
+    /// The source failed before its end.
     Read,
+    /// There was no memory for the line.
     NoMemory,
 }
 
@@ -68,6 +71,7 @@ impl Model for LineText {
 }
 
 impl LineText {
+    /// All its bytes.
     pub fn as_slice(&self) -> &[u8]
         ensures { result.now ≡ self.now }
     {
@@ -93,7 +97,7 @@ fn before_feed(bytes: &[u8]) -> &[u8]
     }
 }
 
-/// Gives the lines of a source.
+/// Gives the lines of a source, which it asks for many bytes at once.
 #[derive(Drop)]
 pub struct Lines<'a, S: Source> {
     source: &'a mut S,
@@ -115,7 +119,7 @@ impl<'a, S: Source> Lines<'a, S> {
     ghost use Rattle.avs_io.specs.Given.{HasGiven, GoesOn};
     ghost use Rattle.avs_io.specs.Pieces.{IsSame, HoldsSome, HoldsNone, IsDone, TakesPiece, LosesPiece};
 
-    /// Reads nothing yet.
+    /// A reader that has read nothing yet, and takes no memory.
     pub fn new(source: &'a mut S) -> Lines<'a, S>
         ensures reference { Borrows result source.entry }
         ensures source { source_of result ≡ source.old }

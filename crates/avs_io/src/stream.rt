@@ -2,7 +2,7 @@
 ghost use Rattle.std.specs.Prelude.{◌≡◌, ◌≤◌, ◌<◌, List, Option, ℕ, length, take, OnOk, OnErr, IfOk};
 ghost use Rattle.std.specs.Io.KnownBytes.{prepend_known, append_known, IsAtEnd};
 ghost use Rattle.avs_seg.specs.Causes.{HasCause};
-ghost use Rattle.avs_io.specs.Bytes.{WritesPart};
+ghost use Rattle.avs_io.specs.Writes.{WritesPart};
 
 use avs_seg::Failed;
 

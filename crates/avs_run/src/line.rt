@@ -54,7 +54,10 @@ fn run_event<K: Sink, R: Rack>(
         Err(WorldFault::NoMemory) => return Err(End::NoMemory),
     };
     match print_answer(alloc, sink, &answer) {
-        Ok(()) => Ok(()),
+        Ok(()) => {
+            world.keep(answer);
+            Ok(())
+        }
         Err(PrintFault::Sink) => Err(End::SinkFault),
         Err(PrintFault::NoMemory) => Err(End::NoMemory),
     }

@@ -13,6 +13,7 @@ use avs_seg::BLOCK;
 use avs_text::fill;
 use indexmap::IndexSet;
 use std::alloc::{AllocError, AllocFailed, Global};
+use std::mem;
 
 const LARGEST_VOLUME: u32 = 262_144;
 
@@ -49,6 +50,8 @@ pub struct World<D> {
     // The blocks of all volumes.
     blocks: u32,
     up: bool,
+    // The buffer of the last read or write, for the next.
+    spare: Vec<u8>,
     ghost a_disk_each: { index_set_len names ≤ vec_len disks },
 }
 
@@ -67,6 +70,7 @@ impl<D: Arm> World<D> {
             disks: Vec::new(alloc),
             blocks: 0,
             up: true,
+            spare: Vec::new(alloc),
         }
     }
 
@@ -167,9 +171,12 @@ impl<D: Arm> World<D> {
             Ok(place) => place,
             Err(why) => return Ok(Answer::Refused(why)),
         };
-        let bytes = filled(alloc, pattern, len)?;
+        let bytes = filled(mem::replace(&mut self.spare, Vec::new(alloc)), pattern, len)?;
         match self.disks[place].write(at, &bytes) {
-            Ok(()) => Ok(Answer::Done),
+            Ok(()) => {
+                self.spare = bytes;
+                Ok(Answer::Done)
+            }
             Err(_) => {
                 self.up = false;
                 Ok(Answer::Faulted(Host::P))
@@ -187,13 +194,22 @@ impl<D: Arm> World<D> {
             Ok(place) => place,
             Err(why) => return Ok(Answer::Refused(why)),
         };
-        let mut bytes = zeros(alloc, len)?;
+        let mut bytes = sized(mem::replace(&mut self.spare, Vec::new(alloc)), len)?;
         match self.disks[place].read(at, &mut bytes) {
             Ok(()) => Ok(Answer::Shown(Blocks::new(bytes))),
             Err(_) => {
                 self.up = false;
                 Ok(Answer::Faulted(Host::P))
             }
+        }
+    }
+
+    /// Takes back the memory of an answer that was printed, for the next.
+    pub fn keep(&mut self, answer: Answer)
+        ensures { (steady : Bool) (state : State) → Stands D.seen steady self.old state → Stands D.seen steady self.new state }
+    {
+        if let Answer::Shown(blocks) = answer {
+            self.spare = blocks.into_bytes();
         }
     }
 
@@ -236,21 +252,22 @@ impl<D: Arm> World<D> {
     }
 }
 
-// Zeros in so many blocks.
-fn zeros(alloc: Global, len: u32) -> Result<Vec<u8>, WorldFault>
+// A buffer of so many blocks, whatever is in it.
+fn sized(mut bytes: Vec<u8>, len: u32) -> Result<Vec<u8>, WorldFault>
     ensures len { IfOk result (λ bytes. vec_len bytes ≡ 512 * len) }
     ensures memory { OnErr result (result ≡ Err WorldFault.NoMemory) }
 {
-    Ok(vec![in alloc; 0; len as usize * BLOCK]?)
+    bytes.resize(len as usize * BLOCK, 0)?;
+    Ok(bytes)
 }
 
-// So many blocks that the pattern fills.
-fn filled(alloc: Global, pattern: &Pattern, len: u32) -> Result<Vec<u8>, WorldFault>
+// So many blocks that the pattern fills, in that buffer.
+fn filled(bytes: Vec<u8>, pattern: &Pattern, len: u32) -> Result<Vec<u8>, WorldFault>
     ensures len { IfOk result (λ bytes. vec_len bytes ≡ 512 * len) }
     ensures blocks { IfOk result (λ bytes. blocks_of bytes.items ≡ replicate len (fill pattern.now)) }
     ensures memory { OnErr result (result ≡ Err WorldFault.NoMemory) }
 {
-    let mut bytes = zeros(alloc, len)?;
+    let mut bytes = sized(bytes, len)?;
     fill(pattern, &mut bytes);
     Ok(bytes)
 }

@@ -31,14 +31,17 @@ returns-in-Err-NoMemory-clause-runs g c tells line is number = record {
 }
 
 pub returns-in-Ok-print_answer-clause-runs : goal.returns-in-Ok-print_answer-clause-runs
-returns-in-Ok-print_answer-clause-runs g c tells line is number = record {
-  goes_on = λ lines printed so_far lt. (
-    answer_line c.in-Ok.answer,
-    c.in-Ok-print_answer.ensures.printed,
-    event_done g.R.D.Disk.seen (g.R.Rack.seen c.args.rack.now).steady lines line c.args.world.now printed c.step.new.self c.args.event.now c.in-Ok.answer so_far lt is (c.in-Ok.ensures.steps tells),
-  );
-  ends = tt;
-}
+returns-in-Ok-print_answer-clause-runs g c tells line is number =
+    let steady = (g.R.Rack.seen c.args.rack.now).steady in
+    record {
+      goes_on = λ lines printed so_far lt. (
+        answer_line c.in-Ok.answer,
+        c.in-Ok-print_answer.ensures.printed,
+        event_done g.R.D.Disk.seen steady lines line c.args.world.now printed c.keep.new.self c.args.event.now c.in-Ok.answer so_far lt is
+            (λ s stands. let step = c.in-Ok.ensures.steps tells s stands in (step.0, step.1, c.keep.ensures steady step.0 step.2)),
+      );
+      ends = tt;
+    }
 
 pub returns-in-Err-Sink-clause-runs : goal.returns-in-Err-Sink-clause-runs
 returns-in-Err-Sink-clause-runs g c tells line is number =

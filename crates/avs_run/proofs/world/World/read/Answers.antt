@@ -15,7 +15,7 @@ returns-in-Ok-read-clause-steps g c steady s stands =
     let long : length out ≡ 512 * c.args.len = omega (arith, kept, c.deref_mut.ensures.len, c.in_ok-bytes.ensures.len) in
     let items = with_items_is c.in_ok-bytes.bytes out (omega (arith, kept, c.deref_mut.ensures.len)) in
     let r = read_done g.D.Disk.seen steady (λ held. held.items) self.names.keys self.disks.items self.blocks s c.args.name.now c.in-Ok.place disk c.read.new.self c.args.at c.args.len c.in-Ok-read.field-0
-    out c.new.result stands.holds c.in-Ok.ensures.place read (c.in-Ok.ensures.passes steady s stands) c.in-Ok-read.ensures long (c.new.ensures ∙ ap blocks_of items) in
+    out c.new-in-Ok-read.result stands.holds c.in-Ok.ensures.place read (c.in-Ok.ensures.passes steady s stands) c.in-Ok-read.ensures long (c.new-in-Ok-read.ensures ∙ ap blocks_of items) in
     (r.next, r.step, record { up = stands.up ∙ sym r.is_up; holds = r.holds })
 
 pub returns-in-Err-read-clause-steps : goal.returns-in-Err-read-clause-steps

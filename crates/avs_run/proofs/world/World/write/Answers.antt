@@ -14,8 +14,8 @@ returns-in-Ok-write-clause-steps g c steady s stands =
     c.args.pattern.now c.deref.result.now stands.holds c.in-Ok.ensures.place read (c.in-Ok.ensures.passes steady s stands) c.in-Ok-write.ensures filled in
     (r.next, r.step, record { up = stands.up ∙ sym r.is_up; holds = r.holds })
 
-pub returns-clause-steps : goal.returns-clause-steps
-returns-clause-steps g c steady s stands =
+pub returns-in-Err-write-clause-steps : goal.returns-in-Err-write-clause-steps
+returns-in-Err-write-clause-steps g c steady s stands =
     let self = c.args.self.now in
     let disk = c.index_mut.result.now in
     let read = slice_get_read self.disks.items self.disks.len c.in-Ok.place disk self.disks.ok.0 c.in-Ok.ensures.within c.index_mut.ensures.value in
@@ -24,8 +24,8 @@ returns-clause-steps g c steady s stands =
     c.args.pattern.now c.deref.result.now stands.holds c.in-Ok.ensures.place read (c.in-Ok.ensures.passes steady s stands) c.in-Err-write.ensures filled in
     (r.next, r.step, record { up = sym r.is_up; holds = r.holds })
 
-pub returns-clause-cause : goal.returns-clause-cause
-returns-clause-cause g c =
+pub returns-in-Err-write-clause-cause : goal.returns-in-Err-write-clause-cause
+returns-in-Err-write-clause-cause g c =
     let self = c.args.self.now in
     let disk = c.index_mut.result.now in
     let read = slice_get_read self.disks.items self.disks.len c.in-Ok.place disk self.disks.ok.0 c.in-Ok.ensures.within c.index_mut.ensures.value in

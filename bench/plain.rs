@@ -1,0 +1,71 @@
+// The yardstick: a plain program that does the same copies for the same scripts, with no checks and no proofs.
+// It reads a script of `volume`, `write` and `read` lines, and prints the same answers.
+use std::collections::HashMap;
+use std::io::{BufRead, Write};
+
+fn pattern(block: &[u8]) -> &[u8] {
+    for len in [1, 2, 4, 8, 16] {
+        if block[len..] == block[..512 - len] {
+            return &block[..len];
+        }
+    }
+    block
+}
+
+fn runs(bytes: &[u8], text: &mut String) {
+    text.push_str("data");
+    let mut blocks = bytes.chunks(512).peekable();
+    while let Some(block) = blocks.next() {
+        let mut count = 1;
+        while blocks.peek() == Some(&block) {
+            blocks.next();
+            count += 1;
+        }
+        text.push_str(&format!(" {count}*"));
+        for byte in pattern(block) {
+            text.push_str(&format!("{byte:02x}"));
+        }
+    }
+    text.push('\n');
+}
+
+fn main() {
+    let mut volumes: HashMap<String, Vec<u8>> = HashMap::new();
+    let mut total = 0;
+    let mut out = std::io::stdout().lock();
+    let mut text = String::new();
+    for line in std::io::stdin().lock().lines() {
+        let line = line.unwrap();
+        let words: Vec<&str> = line.split_whitespace().collect();
+        text.clear();
+        match words[0] {
+            "volume" => {
+                let blocks: usize = words[3].parse().unwrap();
+                if volumes.contains_key(words[2]) {
+                    text.push_str("refused Exists\n");
+                } else if total + blocks > 1_048_576 {
+                    text.push_str("refused Limit 1048576\n");
+                } else {
+                    volumes.insert(words[2].to_string(), vec![0; 512 * blocks]);
+                    total += blocks;
+                    text.push_str("ok\n");
+                }
+            }
+            "write" => {
+                let (at, len): (usize, usize) = (words[3].parse().unwrap(), words[4].parse().unwrap());
+                let byte = u8::from_str_radix(words[5], 16).unwrap();
+                let filled = vec![byte; 512 * len];
+                let volume = volumes.get_mut(words[2]).unwrap();
+                volume[512 * at..512 * (at + len)].copy_from_slice(&filled);
+                text.push_str("ok\n");
+            }
+            _ => {
+                let (at, len): (usize, usize) = (words[3].parse().unwrap(), words[4].parse().unwrap());
+                let bytes = volumes[words[2]][512 * at..512 * (at + len)].to_vec();
+                runs(&bytes, &mut text);
+            }
+        }
+        out.write_all(text.as_bytes()).unwrap();
+        out.flush().unwrap();
+    }
+}

@@ -1,0 +1,9 @@
+pub mod Numbers
+pub mod Ruled
+pub mod LabelBlocks
+pub mod QueueBlocks
+pub mod ConfigBlocks
+pub mod HeaderBlocks
+pub mod SlotBytes
+pub mod SlotTables
+pub mod GroupBlocks

@@ -1,0 +1,26 @@
+//! The records that stand in single blocks of a disk, each with one spelling for one value.
+#![tactic(auto)]
+
+mod bytes;
+mod config_headers;
+mod group_blocks;
+mod labels;
+mod land_headers;
+mod laws;
+mod queue_headers;
+mod records;
+mod slot_table;
+
+pub use config_headers::{ConfigHeader, get_config_header, put_config_header};
+pub use group_blocks::{GroupBlock, get_group_block, put_group_block};
+pub use labels::{Label, get_label, put_label};
+pub use land_headers::{
+    EntryHeader, LandHeader, get_entry_header, get_land_header, put_entry_header, put_land_header,
+};
+pub use laws::one_spelling;
+pub use queue_headers::{QueueHeader, get_queue_header, put_queue_header};
+pub use records::BadRecord;
+pub use slot_table::{SLOTS, Slot, Slots};
+
+#[cfg(test)]
+mod tests;

@@ -1,0 +1,267 @@
+// Each record at the edges of its fields, and blocks in which one byte is altered.
+use crate::*;
+use avs_seg::BLOCK;
+
+const MAX: u64 = 1 << 62;
+
+// The block with another byte at a place.
+fn altered(block: &[u8; BLOCK], at: usize, byte: u8) -> [u8; BLOCK] {
+    let mut other = *block;
+    if let Some(place) = other.get_mut(at) {
+        *place = byte;
+    }
+    other
+}
+
+#[test]
+fn labels(rt: HostRuntime) {
+    let label = Label {
+        version: 1,
+        kind: Label::IMPORT_BITMAP,
+        blocks: u32::MAX,
+        segments: u32::MAX,
+        stamp: MAX,
+    };
+    let mut block = [0xee; BLOCK];
+    put_label(&label, &mut block);
+    assert!(rt;
+        block.starts_with(
+            b"AVSVOL01\0\0\0\x01\0\0\0\x09\xff\xff\xff\xff\xff\xff\xff\xff\x40\0\0\0\0\0\0\0\0"
+        )
+    );
+    assert_eq!(rt; get_label(&block), Ok(label));
+    for (at, byte, field) in [
+        (7, b'2', 0),
+        (8, 1, 1),
+        (11, 2, 1),
+        (15, 0, 2),
+        (15, 10, 2),
+        (15, 8, 5),
+        (31, 1, 5),
+        (32, 1, 6),
+        (511, 1, 6),
+    ] {
+        assert_eq!(rt;
+            get_label(&altered(&block, at, byte)),
+            Err(BadRecord(field)),
+            "{byte} at {at}"
+        );
+    }
+    let fewer = Label {
+        blocks: 0xff_ffff,
+        ..label
+    };
+    assert_eq!(rt; get_label(&altered(&block, 16, 0)), Ok(fewer));
+}
+
+#[test]
+fn a_mirror_bitmap_has_no_stamp(rt: HostRuntime) {
+    let label = Label {
+        version: 1,
+        kind: Label::MIRROR_BITMAP,
+        blocks: 4096,
+        segments: 64,
+        stamp: 0,
+    };
+    let mut block = [0; BLOCK];
+    put_label(&label, &mut block);
+    assert_eq!(rt; get_label(&block), Ok(label));
+    assert_eq!(rt; get_label(&altered(&block, 31, 1)), Err(BadRecord(5)));
+}
+
+#[test]
+fn group_blocks(rt: HostRuntime) {
+    let slot = Slot {
+        flags: 31,
+        kind: Slot::COMPACT,
+        need: u32::MAX,
+        slots: u32::MAX,
+        stamp: MAX,
+    };
+    let mut slots = Slots::empty();
+    slots.set(0, slot);
+    slots.set(15, slot);
+    assert_eq!(rt; slots.get(15), slot);
+    assert_eq!(rt; slots.get(1), Slot::EMPTY);
+    let group = GroupBlock {
+        version: 1,
+        sequence: u64::MAX,
+        slots,
+        note: [0xdd; 64],
+    };
+    let mut block = [0xee; BLOCK];
+    put_group_block(&group, &mut block);
+    assert!(rt;
+        block.starts_with(
+            b"AVSG\0\0\0\x01\xff\xff\xff\xff\xff\xff\xff\xff\x1f\x03\0\0\xff\xff\xff\xff\xff\xff\xff\xff\x40\0\0\0\0\0\0\0\0\0\0\0\0"
+        )
+    );
+    assert_eq!(rt; get_group_block(&block), Ok(group));
+    for (at, byte, field) in [
+        (3, b'L', 0),
+        (7, 0, 1),
+        (16, 32, 3),
+        (376, 32, 3),
+        (377, 4, 3),
+        (379, 1, 3),
+        (395, 1, 3),
+        (399, 1, 3),
+        (464, 1, 5),
+        (511, 1, 5),
+    ] {
+        assert_eq!(rt;
+            get_group_block(&altered(&block, at, byte)),
+            Err(BadRecord(field)),
+            "{byte} at {at}"
+        );
+    }
+    assert!(rt; get_group_block(&altered(&block, 400, 0)).is_ok());
+    assert!(rt; get_group_block(&altered(&block, 463, 0)).is_ok());
+}
+
+#[test]
+fn land_headers(rt: HostRuntime) {
+    let header = LandHeader {
+        version: 1,
+        session: MAX,
+        place: MAX,
+        kind: LandHeader::WRITE,
+        set: u32::MAX,
+        at: u32::MAX,
+        len: 256,
+    };
+    let mut block = [0xee; BLOCK];
+    put_land_header(&header, &mut block);
+    assert!(rt;
+        block.starts_with(
+            b"AVSL\0\0\0\x01\x40\0\0\0\0\0\0\0\x40\0\0\0\0\0\0\0\0\0\0\x01\xff\xff\xff\xff\xff\xff\xff\xff\0\0\x01\0\0"
+        )
+    );
+    assert_eq!(rt; get_land_header(&block), Ok(header));
+    for (at, byte, field) in [
+        (3, b'E', 0),
+        (7, 2, 1),
+        (15, 1, 2),
+        (23, 1, 3),
+        (27, 4, 4),
+        (27, 0, 7),
+        (27, 2, 7),
+        (38, 0, 7),
+        (39, 1, 7),
+        (40, 1, 8),
+        (511, 1, 8),
+    ] {
+        assert_eq!(rt;
+            get_land_header(&altered(&block, at, byte)),
+            Err(BadRecord(field)),
+            "{byte} at {at}"
+        );
+    }
+    assert!(rt; get_entry_header(&block) == Err(BadRecord(0)));
+}
+
+#[test]
+fn entry_headers(rt: HostRuntime) {
+    let header = EntryHeader {
+        version: 1,
+        session: 1,
+        place: 2,
+        kind: LandHeader::COPY,
+        set: 15,
+        at: 4032,
+        len: 64,
+    };
+    let mut block = [0xee; BLOCK];
+    put_entry_header(&header, &mut block);
+    assert!(rt;
+        block.starts_with(
+            b"AVSE\0\0\0\x01\0\0\0\0\0\0\0\x01\0\0\0\0\0\0\0\x02\0\0\0\x02\0\0\0\x0f\0\0\x0f\xc0\0\0\0\x40\0"
+        )
+    );
+    assert_eq!(rt; get_entry_header(&block), Ok(header));
+    for (at, byte, field) in [(27, 3, 7), (27, 5, 4), (39, 0, 7), (39, 65, 7), (511, 1, 8)] {
+        assert_eq!(rt;
+            get_entry_header(&altered(&block, at, byte)),
+            Err(BadRecord(field)),
+            "{byte} at {at}"
+        );
+    }
+    let mark = altered(&altered(&block, 27, 3), 39, 0);
+    assert!(rt; get_entry_header(&mark).is_ok());
+}
+
+#[test]
+fn queue_headers(rt: HostRuntime) {
+    let header = QueueHeader {
+        version: 1,
+        session: MAX,
+        first: MAX + 1,
+        next: MAX + 1,
+        head: u32::MAX,
+        used: u32::MAX,
+    };
+    let mut block = [0xee; BLOCK];
+    put_queue_header(&header, &mut block);
+    assert!(rt;
+        block.starts_with(
+            b"AVSQ\0\0\0\x01\x40\0\0\0\0\0\0\0\x40\0\0\0\0\0\0\x01\x40\0\0\0\0\0\0\x01\xff\xff\xff\xff\xff\xff\xff\xff\0"
+        )
+    );
+    assert_eq!(rt; get_queue_header(&block), Ok(header));
+    for (at, byte, field) in [
+        (0, b'a', 0),
+        (7, 0, 1),
+        (15, 1, 2),
+        (23, 2, 3),
+        (31, 2, 4),
+        (40, 1, 7),
+        (511, 1, 7),
+    ] {
+        assert_eq!(rt;
+            get_queue_header(&altered(&block, at, byte)),
+            Err(BadRecord(field)),
+            "{byte} at {at}"
+        );
+    }
+}
+
+#[test]
+fn config_headers(rt: HostRuntime) {
+    let header = ConfigHeader {
+        version: 1,
+        sequence: u64::MAX,
+        area: 1,
+        bytes: 523_776,
+    };
+    let mut block = [0xee; BLOCK];
+    put_config_header(&header, &mut block);
+    assert!(rt;
+        block.starts_with(b"AVSC\0\0\0\x01\xff\xff\xff\xff\xff\xff\xff\xff\0\0\0\x01\0\x07\xfe\0\0")
+    );
+    assert_eq!(rt; get_config_header(&block), Ok(header));
+    for (at, byte, field) in [
+        (2, 0, 0),
+        (7, 3, 1),
+        (19, 2, 3),
+        (23, 1, 4),
+        (24, 1, 5),
+        (511, 1, 5),
+    ] {
+        assert_eq!(rt;
+            get_config_header(&altered(&block, at, byte)),
+            Err(BadRecord(field)),
+            "{byte} at {at}"
+        );
+    }
+}
+
+// Where several fields break their rules, the first of them is named.
+#[test]
+fn the_first_bad_field_is_named(rt: HostRuntime) {
+    let mut block = [1; BLOCK];
+    assert_eq!(rt; get_land_header(&block), Err(BadRecord(0)));
+    block[..4].copy_from_slice(b"AVSL");
+    assert_eq!(rt; get_land_header(&block), Err(BadRecord(1)));
+    block[4..8].copy_from_slice(&[0, 0, 0, 1]);
+    assert_eq!(rt; get_land_header(&block), Err(BadRecord(4)));
+}

@@ -1,0 +1,4 @@
+pub mod Rising
+pub mod Consistent
+pub mod Changes
+pub mod Stacks

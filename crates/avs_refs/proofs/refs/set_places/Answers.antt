@@ -1,0 +1,16 @@
+use Rattle.std.proofs.Common.{◌≡◌, ℕ, ◌+◌, ◌-◌, List, length, take, drop, replicate, ◌∙◌, ap, arith}
+use Rattle.std.proofs.lemmas.List.{length-take-le, length-drop}
+use Rattle.std.specs.List.{slice_index}
+use borrow.Rule.Slice.PartMut.{put_mid}
+use Rattle.avs_refs.proofs.Stacks.{slice_index-put_mid}
+use Rattle.avs_refs.proofs.refs.set_places.Goals as goal
+
+pub returns : goal.returns
+returns c = λ seg within.
+    let greatest = c.args.greatest.now in
+    let first = c.args.first in
+    let count : first + c.args.count - first ≡ c.args.count = omega arith in
+    let long : length (take (first + c.args.count - first) (drop first greatest)) ≡ c.args.count = length-take-le (first + c.args.count - first) (drop first greatest) (omega (arith, length-drop first greatest)) ∙ count in
+    ap (λ (k : ℕ). slice_index (put_mid first k greatest c.fill.new.self) seg) count
+    ∙ ap (λ (l : List ℕ). slice_index (put_mid first c.args.count greatest l) seg) (c.fill.ensures.after (λ y is. is) ∙ ap (λ (k : ℕ). replicate k c.args.place) long)
+    ∙ slice_index-put_mid greatest first c.args.count c.args.place seg c.requires
