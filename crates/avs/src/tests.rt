@@ -196,16 +196,26 @@ fn lines_have_a_greatest_length(rt: HostRuntime) -> Result<(), Fail> {
 fn a_disk_fails_at_each_of_its_calls(rt: HostRuntime) -> Result<(), Fail> {
     let script =
         b"volume p /v/a 64\nwrite p /v/a 0 1 11\nread p /v/a 0 1\nwrite p /v/a 0 1 22\nread p /v/a 0 1\nvolume p /v/b 64\n".as_slice();
-    let wants: [&[u8]; 5] = [
-        b"ok\nrefused Fault p\nrefused Down p\nrefused Down p\nrefused Down p\nrefused Down p\n",
-        b"ok\nok\nrefused Fault p\nrefused Down p\nrefused Down p\nrefused Down p\n",
-        b"ok\nok\ndata 1*11\nrefused Fault p\nrefused Down p\nrefused Down p\n",
-        b"ok\nok\ndata 1*11\nok\nrefused Fault p\nrefused Down p\n",
-        b"ok\nok\ndata 1*11\nok\ndata 1*22\nok\n",
+    let wants: [(u64, &[u8]); 5] = [
+        (
+            1,
+            b"ok\nrefused Fault p\nrefused Down p\nrefused Down p\nrefused Down p\nrefused Down p\n",
+        ),
+        (
+            2,
+            b"ok\nok\nrefused Fault p\nrefused Down p\nrefused Down p\nrefused Down p\n",
+        ),
+        (
+            3,
+            b"ok\nok\ndata 1*11\nrefused Fault p\nrefused Down p\nrefused Down p\n",
+        ),
+        (
+            4,
+            b"ok\nok\ndata 1*11\nok\nrefused Fault p\nrefused Down p\n",
+        ),
+        (5, b"ok\nok\ndata 1*11\nok\ndata 1*22\nok\n"),
     ];
-    let mut call = 0;
-    for want in wants {
-        call += 1;
+    for (call, want) in wants {
         check(
             &rt,
             rt.alloc(),
@@ -269,17 +279,18 @@ fn the_source_fails_at_each_of_its_calls(rt: HostRuntime) -> Result<(), Fail> {
 #[test]
 fn the_sink_fails_at_each_of_its_calls(rt: HostRuntime) -> Result<(), Fail> {
     let alloc = rt.alloc();
-    let wants: [&[u8]; 6] = [
-        b"",
-        b"ok\n",
-        b"ok\nok\n",
-        b"ok\nok\ndata 1*00 1*ab\n",
-        b"ok\nok\ndata 1*00 1*ab\nrefused Range 64\n",
-        b"ok\nok\ndata 1*00 1*ab\nrefused Range 64\nrefused Exists\n",
+    let wants: [(u64, &[u8]); 6] = [
+        (1, b""),
+        (2, b"ok\n"),
+        (3, b"ok\nok\n"),
+        (4, b"ok\nok\ndata 1*00 1*ab\n"),
+        (5, b"ok\nok\ndata 1*00 1*ab\nrefused Range 64\n"),
+        (
+            6,
+            b"ok\nok\ndata 1*00 1*ab\nrefused Range 64\nrefused Exists\n",
+        ),
     ];
-    let mut call = 0;
-    for want in wants {
-        call += 1;
+    for (call, want) in wants {
         check(
             &rt,
             alloc,
@@ -368,15 +379,12 @@ impl Source for Comments {
     ghost faults = { λ _. 0 };
 
     fn read(&mut self, out: &mut [u8]) -> Result<usize, Failed> {
-        let mut count = 0;
-        for byte in out.iter_mut() {
-            if self.bytes == 0 {
-                break;
-            }
-            *byte = if self.bytes % 2 == 0 { b'#' } else { b'\n' };
-            self.bytes -= 1;
-            count += 1;
+        let count = (out.len() as u64).min(self.bytes) as usize;
+        let odd = self.bytes % 2 == 1;
+        for (place, byte) in out[..count].iter_mut().enumerate() {
+            *byte = if (place % 2 == 1) == odd { b'#' } else { b'\n' };
         }
+        self.bytes -= count as u64;
         Ok(count)
     }
 }
