@@ -29,6 +29,13 @@ fn runs(bytes: &[u8], text: &mut String) {
     text.push('\n');
 }
 
+// Zeros that are written, so that no page of them is the system's shared page of zeros.
+fn zeros(len: usize) -> Vec<u8> {
+    let mut bytes = Vec::new();
+    bytes.resize(len, std::hint::black_box(0));
+    bytes
+}
+
 fn main() {
     let mut volumes: HashMap<String, Vec<u8>> = HashMap::new();
     let mut total = 0;
@@ -46,7 +53,7 @@ fn main() {
                 } else if total + blocks > 1_048_576 {
                     text.push_str("refused Limit 1048576\n");
                 } else {
-                    volumes.insert(words[2].to_string(), vec![0; 512 * blocks]);
+                    volumes.insert(words[2].to_string(), zeros(512 * blocks));
                     total += blocks;
                     text.push_str("ok\n");
                 }
