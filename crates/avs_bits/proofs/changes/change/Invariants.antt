@@ -1,0 +1,20 @@
+use Rattle.std.proofs.Common.{◌≡◌, ◌≤◌, ◌+◌, ◌-◌, ◌*◌, ◌/◌, min, ℕ, length}
+use Rattle.avs_seg.specs.Image.{ChangesWithin}
+use Rattle.avs_dev.specs.Seen.{IsTold}
+use Rattle.avs_bits.specs.Bit.{bit_of, IsPut, IsHeld}
+use Rattle.avs_bits.proofs.changes.change.Given as goal
+
+abbrev pub invariant-loop-block : goal.invariant-loop-block
+invariant-loop-block g l =
+    let before = g.D.Disk.seen l.fn.disk in
+    let now = g.D.Disk.seen l.disk in
+    record {
+      len : length l.bytes.items ≡ length l.fn.bytes.items;
+      size : now.size ≡ before.size;
+      steady : now.steady ≡ before.steady;
+      told : IsTold before → IsTold now;
+      later : before.faults ≤ now.faults;
+      within : IsTold before → ChangesWithin (l.from / 4096) ((l.to + 4095) / 4096 - l.from / 4096) before.image now.image;
+      put : IsPut (bit_of l.fn.bytes.items) (bit_of l.bytes.items) l.from (min (4096 * l.block) l.to) l.on;
+      held : IsTold before → (n : ℕ) → IsHeld before.image n (bit_of l.fn.bytes.items) → IsHeld now.image n (bit_of l.bytes.items);
+    }
