@@ -1,1 +1,4 @@
+pub mod BareCalls
+pub mod BareViews
 pub mod Outcomes
+pub mod SomeDisks

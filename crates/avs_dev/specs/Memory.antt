@@ -1,5 +1,5 @@
 -- Disks in memory: which of their calls fail, and what each call leaves.
-use Rattle.std.specs.Prelude.{ℕ, ◌+◌, ◌-◌, ◌^◌, min, Bool, ◌||◌, if◌then◌else◌, ◌==◌, List, length, Option, Some, None, is_some}
+use Rattle.std.specs.Prelude.{ℕ, ◌+◌, ◌-◌, ◌^◌, min, Bool, true, ◌||◌, if◌then◌else◌, ◌==◌, List, length, Option, Some, None, is_some}
 use Rattle.std.specs.List.{list_any, range_with_len}
 use Rattle.avs_seg.specs.Image.{Image, put, mix, blocks_of, blank}
 use Rattle.avs_dev.specs.Seen.{Seen}
@@ -32,7 +32,7 @@ state_of d = record {
 abbrev pub new_state : ℕ → List ℕ → MemState
 new_state size fails = record { image = blank size; size = size; fails = fails; calls = 0; faults = 0; written = 0; tear = None }
 
--- what it is as a disk: it tells its blocks, and is steady where no call is to fail
+-- what it is as a disk: it tells its blocks, is steady where no call is to fail, and always lets a tear be armed
 abbrev pub seen_of : MemState → Seen
 seen_of d = record {
   image = d.image;
@@ -41,6 +41,7 @@ seen_of d = record {
   written = d.written;
   steady = length d.fails == 0;
   armed = is_some d.tear;
+  arms = true;
 }
 
 -- a count that stops at the greatest u64

@@ -12,20 +12,21 @@ pub record RackSeen : Type 0 where
   pub tells : Bool
   pub steady : Bool
 
--- a disk that it makes: zeros in every block, nothing written, no fault and no tear armed
-abbrev pub new_disk : RackSeen → ℕ → Seen
-new_disk rack blocks = record {
+-- a disk that it makes: zeros in every block, nothing written, no fault and no tear armed; whether one can be, the disk says
+abbrev pub new_disk : RackSeen → ℕ → Bool → Seen
+new_disk rack blocks arms = record {
   image = if rack.tells then blank blocks else [];
   size = blocks;
   faults = 0;
   written = 0;
   steady = rack.steady;
   armed = false;
+  arms = arms;
 }
 
 -- the disk made is such a one, and the rack refuses only where its faults rose
 pub record Makes {D : Type 0} (seen : D → Seen) (old : RackSeen) (blocks : ℕ) (result : Result D RackFault) (new : RackSeen) : Type 0 where
   pub rest : new ≡ record old { faults = new.faults }
   pub later : old.faults ≤ new.faults
-  pub made : IfOk result (λ d. seen d ≡ new_disk old blocks)
+  pub made : IfOk result (λ d. seen d ≡ new_disk old blocks (seen d).arms)
   pub refused : result ≡ Err Refused → Rose old.faults new.faults

@@ -4,7 +4,7 @@ use Rattle.avs_seg.specs.Image.{Image, put, range, blocks_of, IsMix, ChangesWith
 use Rattle.avs_seg.specs.Causes.{HasCause}
 
 -- a disk: its blocks ([] where it does not tell them), its size, how often it has failed, the blocks written,
--- whether it fails only where a tear is armed, and whether one is
+-- whether it fails only where a tear is armed, whether one is, and whether it lets one be armed
 pub record Seen : Type 0 where
   pub image : Image
   pub size : ℕ
@@ -12,6 +12,7 @@ pub record Seen : Type 0 where
   pub written : ℕ
   pub steady : Bool
   pub armed : Bool
+  pub arms : Bool
 
 -- the disk tells what is in its blocks
 abbrev pub IsTold : Seen → Type 0
@@ -45,13 +46,14 @@ pub record Writes {T E : Type 0} (old : Seen) (at : ℕ) (bytes : List ℕ) (res
   pub failed : IsTold old → OnErr result (IsMix old.image at (blocks_of bytes) new.image)
   pub within : IsTold old → ChangesWithin at (length bytes / 512) old.image new.image
   pub told : IsTold old → IsTold new
+  pub tells : IsTold new → IsTold old
   pub counted : OnOk result (new.written ≡ min (old.written + length bytes / 512) (2 ^ 64 - 1))
   pub uncounted : OnErr result (new.written ≡ old.written)
   pub still_armed : OnOk result (new.armed ≡ old.armed)
   pub spent : IsTrue old.steady → OnErr result (UsesTear old new)
 
--- a tear is armed exactly where the disk can be armed, and nothing else changes
-pub record Arms (old : Seen) (can result : Bool) (new : Seen) : Type 0 where
-  pub answer : result ≡ can
+-- a tear is armed exactly where the disk lets one be armed, and nothing else changes
+pub record Arms (old : Seen) (result : Bool) (new : Seen) : Type 0 where
+  pub answer : result ≡ old.arms
   pub armed : IsTrue result → new ≡ record old { armed = true }
   pub unarmed : IsTrue (not result) → new ≡ old

@@ -1,5 +1,5 @@
 // Disks of blocks of 512 bytes that write through.
-ghost use Rattle.std.specs.Prelude.{◌≡◌, ◌<◌, ◌^◌, Bool, IsTrue, length};
+ghost use Rattle.std.specs.Prelude.{◌≡◌, ◌<◌, ◌^◌, IsTrue, length};
 ghost use Rattle.avs_dev.specs.Seen.{Seen, IsRange, Reads, Writes, Arms};
 
 use avs_seg::Failed;
@@ -41,13 +41,10 @@ pub struct Tear {
 
 /// A disk that can be made to fail.
 pub trait Arm: Disk {
-    /// Whether a tear can be armed.
-    ghost can_arm: { Self → Bool };
-
     /// Arms a tear, in the place of one that is armed. The answer is false where the disk can't be armed.
     fn arm(&mut self, tear: Tear) -> bool
-        ensures { Arms (Self.seen self.old) (can_arm self.old) result (Self.seen self.new) };
+        ensures { Arms (Self.seen self.old) result (Self.seen self.new) };
 
     /// A steady disk can be armed, so that it too can be seen to fail.
-    ghost steady_arms: { (d : Self) → IsTrue (Self.seen d).steady → IsTrue (can_arm d) };
+    ghost steady_arms: { (d : Self) → IsTrue (Self.seen d).steady → IsTrue (Self.seen d).arms };
 }

@@ -182,17 +182,15 @@ impl fmt::Debug for MemDisk {
 }
 
 impl Arm for MemDisk {
-    ghost use Rattle.std.specs.Prelude.{true, refl};
+    ghost use Rattle.std.specs.Prelude.{refl};
     ghost use Rattle.avs_dev.specs.Seen.{Arms};
     ghost use Rattle.avs_dev.specs.Memory.{state_of, seen_of};
-
-    ghost can_arm = { λ _. true };
 
     ghost steady_arms = { λ _ _. refl };
 
     /// It can always be armed.
     fn arm(&mut self, tear: Tear) -> bool
-        ensures arms { Arms (seen_of (state_of self.old)) true result (seen_of (state_of self.new)) }
+        ensures arms { Arms (seen_of (state_of self.old)) result (seen_of (state_of self.new)) }
         ensures after { state_of self.new ≡ record (state_of self.old) { tear = Some tear } }
     {
         self.tear = Some(tear);

@@ -6,7 +6,7 @@ use std::process::Abort;
 use std::test::Fail;
 
 // Blocks of one byte throughout each.
-fn filled(alloc: Global, bytes: &[u8]) -> Result<Vec<u8>, AllocError> {
+pub(crate) fn filled(alloc: Global, bytes: &[u8]) -> Result<Vec<u8>, AllocError> {
     let mut blocks = Vec::new(alloc);
     for &byte in bytes {
         blocks.extend_from_slice(&[byte; BLOCK])?;

@@ -1,5 +1,5 @@
 -- What each call makes of two areas.
-use Rattle.std.specs.Prelude.{◌≡◌, ◌⊎◌, ℕ, ◌+◌, ◌*◌, ◌==◌, Bool, true, not, IsTrue, if◌then◌else◌, Option, None, Some, Result, OnOk, OnErr, slice_set}
+use Rattle.std.specs.Prelude.{◌≡◌, ◌⊎◌, ℕ, ◌+◌, ◌*◌, ◌==◌, Bool, ◌&&◌, true, not, IsTrue, if◌then◌else◌, Option, None, Some, Result, OnOk, OnErr, slice_set}
 use Rattle.avs_seg.specs.Image.{Block, Image, block_at, ChangesWithin}
 use Rattle.avs_seg.specs.Causes.{HasCause}
 use Rattle.avs_dev.specs.Seen.{IsTold, Reads, Writes}
@@ -50,9 +50,9 @@ pub record Turns (old new : Areas) : Type 0 where
   pub now_live : live new ≡ staged old
   pub now_staged : staged new ≡ live old
 
--- a tear is armed on the disk, whose number is 0; where none is, nothing changes
+-- a tear is armed exactly on the disk with number 0, and where it lets one be armed; where none is, nothing changes
 pub record ArmsDisk (old : Areas) (disk : ℕ) (result : Bool) (new : Areas) : Type 0 where
-  pub there : IsTrue result → disk ≡ 0
+  pub answer : result ≡ ((disk == 0) && old.disk.arms)
   pub armed : IsTrue result → new ≡ record old { disk = record old.disk { armed = true } }
   pub unarmed : IsTrue (not result) → new ≡ old
   pub len : new.len ≡ old.len

@@ -1,0 +1,25 @@
+-- Several devices in an order: which of them may have failed, and which tear that used up.
+use Rattle.std.specs.Prelude.{◌≡◌, ℕ, ◌<◌, ◌≤◌, Bool, true, false, List, length, Some, Result, OnErr, slice_get, slice_set, slice_index}
+use Rattle.avs_seg.specs.Causes.{Rose}
+
+-- counts of faults, of which none has fallen
+pub record NoneFell (old new : List ℕ) : Type 0 where
+  pub same_length : length new ≡ length old
+  pub each : (i : ℕ) → slice_index old i ≤ slice_index new i
+
+-- the count of one device has risen
+pub record OneRose (old new : List ℕ) : Type 0 where
+  pub device : ℕ
+  pub there : device < length old
+  pub rose : Rose (slice_index old device) (slice_index new device)
+
+-- no count has fallen, and an error is answered only where a device failed
+pub record HasOneCause {T E : Type 0} (old new : List ℕ) (result : Result T E) : Type 0 where
+  pub later : NoneFell old new
+  pub failed : OnErr result (OneRose old new)
+
+-- a tear was armed on one device and is armed no more, and the other devices are armed as before
+pub record UsesOneTear (old new : List Bool) : Type 0 where
+  pub device : ℕ
+  pub was_armed : slice_get old device ≡ Some true
+  pub is_used : new ≡ slice_set old device false
