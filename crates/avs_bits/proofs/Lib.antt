@@ -1,1 +1,4 @@
+pub mod Dues
 pub mod SomeBits
+pub mod Stops
+pub mod WholeBytes

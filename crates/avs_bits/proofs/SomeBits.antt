@@ -1,5 +1,5 @@
 -- One bit of a list of bytes, and a change of bits in parts.
-use Rattle.std.proofs.Common.{◌≡◌, ◌≢◌, ◌⊎◌, inl, inr, subst, ℕ, ◌+◌, ◌-◌, ◌*◌, ◌/◌, ◌%◌, ◌^◌, ◌<◌, ◌≤◌, min, max, Bool, true, false, eqb, List, [], ◌∷◌, length, get_or, set, take, drop, replicate, ◌++◌, length-append, ap, sym, refl, ◌∙◌, arith, w8, bit_and, bit_or}
+use Rattle.std.proofs.Common.{◌≡◌, ◌≢◌, ◌⊎◌, inl, inr, subst, ℕ, ◌+◌, ◌-◌, ◌*◌, ◌/◌, ◌%◌, ◌^◌, ◌<◌, ◌≤◌, max, Bool, true, false, eqb, List, [], ◌∷◌, length, get_or, set, take, drop, replicate, ◌++◌, length-append, ap, sym, refl, ◌∙◌, arith, w8, bit_and, bit_or}
 use Rattle.std.specs.Int.{bit_at}
 use Rattle.std.proofs.lemmas.Bool.{cases_eq, cases_lt}
 use Rattle.std.proofs.lemmas.Nat.Bits.{bit_at_set_same, bit_at_set_other, bit_at_clear_same, bit_at_clear_other, shr_and_one, bit_at-zero}
@@ -12,8 +12,8 @@ use Rattle.avs_seg.proofs.Blocks.{same_place}
 use Rattle.avs_seg.proofs.Ranges.{block_at-range, range-put}
 use Rattle.avs_seg.proofs.Mixes.{mix_one}
 use Rattle.avs_seg.proofs.Puts.{put_one, put_outside}
-use Rattle.avs_bits.specs.Bit.{bit_of, disk_bit, IsPut, IsHeld, IsPutInPart}
-use Rattle.avs_bits.specs.BitSet.{place, IsOnDisk, IsChangedInPart}
+use Rattle.avs_bits.specs.Bit.{bit_of, disk_bit, IsPut, IsHeld}
+use Rattle.avs_bits.specs.BitSet.{place, IsOnDisk}
 
 pub tested : (bytes : List ℕ) (p : ℕ) → eqb (bit_and (get_or bytes (p / 8) 0 / 2 ^ (p % 8)) 1) 1 ≡ bit_of bytes p
 unfolding bit_of
@@ -134,18 +134,6 @@ module _ (img : Image) (n block from to : ℕ) (old new part : List ℕ) (on : B
     | inr written ↦ inr (subst (λ (l : Image). IsHeld l n (bit_of new)) (sym written) (held_put img n block from to old new on (take 512 (drop (512 * block) new) ∷ []) refl inside low high change held))
   ]
 
--- a change stopped in a block, before or behind its write
-pub part_put : (old mid new : ℕ → Bool) (first end block low high n : ℕ) (on : Bool) (img : Image) → first ≤ end → first < 4096 * (block + 1) → 4096 * block < end → low ≡ max first (4096 * block) → high ≡ min end (4096 * (block + 1)) → IsPut old mid first (min (4096 * block) end) on → IsPut mid new low high on → IsHeld img n mid ⊎ IsHeld img n new → IsPutInPart old first end on img n
-part_put old mid new first end block low high n on img ordered near over low_is high_is a b held = elim held [
-  | inl before ↦ record { block = block; bits = mid; put = a; held = before }
-  | inr behind ↦ record {
-    block = block + 1;
-    bits = new;
-    put = put_then old mid new first (min (4096 * block) end) low (min (4096 * (block + 1)) end) on (omega arith) (omega arith) (omega arith) a (subst (λ (k : ℕ). IsPut mid new low k on) (let same : high ≡ min (4096 * (block + 1)) end = omega arith in same) b);
-    held = behind;
-  }
-]
-
 -- ---- the label before the bits
 
 pub first_block : (block rest : List ℕ) → length block ≡ 512 → block_at (blocks_of (block ++ rest)) 0 ≡ block
@@ -207,11 +195,19 @@ range-written img new bytes part fits same is =
 
 -- ---- bits of segments
 
-pub segs_put : (old new : List ℕ) (first end : ℕ) (on : Bool) → IsPut (bit_of old) (bit_of new) (place first) (place end) on → IsPut (λ s. bit_of old (place s)) (λ s. bit_of new (place s)) first end on
-segs_put old new first end on put = record {
+pub segs_put : (old new : ℕ → Bool) (first end to : ℕ) (on : Bool) → to ≡ place end → IsPut old new (place first) to on → IsPut (λ s. old (place s)) (λ s. new (place s)) first end on
+segs_put old new first end to on is put = record {
   inside = λ s low high. put.inside (place s) (omega arith) (omega arith);
   outside = λ s out. put.outside (place s) (elim out [ inl low ↦ inl (omega arith) | inr high ↦ inr (omega arith) ]);
 }
+
+pub place_apart : (s first end : ℕ) → (s < first) ⊎ (end ≤ s) → (place s < place first) ⊎ (place end ≤ place s)
+place_apart s first end apart = elim apart [ inl low ↦ inl (omega arith) | inr high ↦ inr (omega arith) ]
+
+pub segs_on : (bits : ℕ → Bool) (first end : ℕ) (on : Bool) → ((s : ℕ) → first ≤ s → s < end → bits (place s) ≡ on) → (p : ℕ) → place first ≤ p → p < place end → bits p ≡ on
+segs_on bits first end on all p low high =
+    let same : place (p - 4096) ≡ p = omega arith in
+    subst (λ (q : ℕ). bits q ≡ on) same (all (p - 4096) (omega arith) (omega arith))
 
 pub on_disk : (img : Image) (segs : ℕ) (bytes : List ℕ) → IsHeld img (place segs) (bit_of bytes) → IsOnDisk img segs (λ s. bit_of bytes (place s))
 on_disk img segs bytes held = record { each = λ s below. held.each (place s) (omega arith) (omega arith) }
@@ -221,15 +217,4 @@ held_by img segs bytes on = record {
   each = λ p behind below.
       let same : place (p - 4096) ≡ p = omega arith in
       subst (λ (q : ℕ). disk_bit img q ≡ bit_of bytes q) same (on.each (p - 4096) (omega arith));
-}
-
-pub changed_part : (old : List ℕ) (first end : ℕ) (on : Bool) (img : Image) (segs : ℕ) → IsPutInPart (bit_of old) (place first) (place end) on img (place segs) → IsChangedInPart (λ s. bit_of old (place s)) first end on img segs
-changed_part old first end on img segs part = record {
-  block = part.block - 1;
-  set = λ s. part.bits (place s);
-  put = record {
-    inside = λ s low high. part.put.inside (place s) (omega arith) (omega arith);
-    outside = λ s out. part.put.outside (place s) (elim out [ inl low ↦ inl (omega arith) | inr high ↦ inr (omega arith) ]);
-  };
-  held = record { each = λ s below. part.held.each (place s) (omega arith) (omega arith) };
 }

@@ -1,11 +1,12 @@
 // A set of segments in memory and on a disk.
 ghost use Rattle.std.specs.Prelude.{◌≡◌, ◌+◌, ◌*◌, ◌/◌, ◌<◌, ◌≤◌, ◌^◌, ℕ, Bool, true, false, nat_lt, IfOk, IfErr, length, replicate};
-ghost use Rattle.avs_seg.specs.Image.{block_at, blocks_of, ChangesWithin};
+ghost use Rattle.avs_seg.specs.Image.{block_at, blocks_of, put, ChangesWithin};
 ghost use Rattle.avs_seg.specs.Segment.{seg_count};
 ghost use Rattle.avs_dev.specs.Seen.{IsTold};
-ghost use Rattle.avs_code.specs.Label.{IsLabel, label_block};
+ghost use Rattle.avs_dev.specs.Memory.{counted};
+ghost use Rattle.avs_code.specs.Label.{IsLabel};
 ghost use Rattle.avs_bits.specs.Bit.{bit_of, IsHeld, FindsBit};
-ghost use Rattle.avs_bits.specs.BitSet.{BitSet, IsInStep, Changes, MakeRefused, LoadRefused, ArmsDisk, blocks_for, bitmap_label, place, written_of, set_of, IsClean, IsKept};
+ghost use Rattle.avs_bits.specs.BitSet.{BitSet, IsInStep, IsZeroBehind, Changes, MakeRefused, LoadRefused, ArmsDisk, blocks_for, bitmap_label, place, written_of, set_of, AreNew, IsKept};
 
 use crate::bit_bytes::{has_bit, next_bit, put_bits};
 use crate::changes::{BLOCK_BITS, change};
@@ -53,15 +54,22 @@ impl<D: Disk> Bits<D> {
         ensures fits { IfOk result (λ b. blocks_for b.segs ≤ b.disk.size) }
         ensures segs { IfOk result (λ b. b.segs ≡ seg_count blocks) }
         ensures stamp { IfOk result (λ b. b.stamp ≡ stamp) }
+        ensures are_new { IfOk result (λ b. AreNew b.bytes blocks full stamp) }
         ensures set { IfOk result (λ b. (s : ℕ) → s < b.segs → set_of b s ≡ full) }
         ensures size { IfOk result (λ b. b.disk.size ≡ (D.seen disk).size) }
+        ensures steady { IfOk result (λ b. b.disk.steady ≡ (D.seen disk).steady) }
+        ensures still_armed { IfOk result (λ b. b.disk.armed ≡ (D.seen disk).armed) }
+        ensures later { IfOk result (λ b. (D.seen disk).faults ≤ b.disk.faults) }
+        ensures written { IfOk result (λ b. b.disk.written ≡ counted (D.seen disk).written (blocks_for b.segs)) }
         ensures told { IfOk result (λ b. IsTold (D.seen disk) → IsTold b.disk) }
+        ensures image { IfOk result (λ b. IsTold (D.seen disk) → b.disk.image ≡ put (D.seen disk).image 0 (blocks_of b.bytes)) }
         ensures label { IfOk result (λ b. IsTold (D.seen disk)
-            → block_at b.disk.image 0 ≡ label_block (bitmap_label (nat_lt 0 stamp) blocks stamp)) }
+            → IsLabel (block_at b.disk.image 0) (bitmap_label (nat_lt 0 stamp) blocks stamp)) }
         ensures step { IfOk result (λ b. IsTold (D.seen disk) → IsInStep b) }
+        ensures zeros { IfOk result (λ b. IsTold (D.seen disk) → IsZeroBehind b.disk.image b.segs) }
         ensures within { IfOk result (λ b. IsTold (D.seen disk)
             → ChangesWithin 0 (blocks_for b.segs) (D.seen disk).image b.disk.image) }
-        ensures refused { IfErr result (λ e. MakeRefused (D.seen disk) (seg_count blocks) e.why (D.seen e.parts)) }
+        ensures refused { IfErr result (λ e. MakeRefused (D.seen disk) blocks full stamp e.why (D.seen e.parts)) }
         ensures stands { IfErr result (λ e. IsTold (D.seen disk)
             → ChangesWithin 0 (blocks_for (seg_count blocks)) (D.seen disk).image (D.seen e.parts).image) }
     {
@@ -91,6 +99,7 @@ impl<D: Disk> Bits<D> {
         ensures fits { IfOk result (λ b. blocks_for b.segs ≤ b.disk.size) }
         ensures segs { IfOk result (λ b. b.segs ≡ seg_count blocks) }
         ensures kept { IfOk result (λ b. b.disk ≡ record (D.seen disk) { faults = b.disk.faults }) }
+        ensures later { IfOk result (λ b. (D.seen disk).faults ≤ b.disk.faults) }
         ensures label { IfOk result (λ b. IsTold (D.seen disk)
             → IsLabel (block_at (D.seen disk).image 0) (bitmap_label import blocks b.stamp)) }
         ensures step { IfOk result (λ b. IsTold (D.seen disk) → IsInStep b) }
@@ -219,10 +228,7 @@ impl<D: Disk> Bits<D> {
 fn fill_bytes(bytes: &mut Vec<u8>, blocks: u32, full: bool, stamp: u64)
     requires stamp { stamp ≤ 2 ^ 62 }
     requires zeros { bytes.old.items ≡ replicate (512 * blocks_for (seg_count blocks)) 0 }
-    ensures len { length bytes.new.items ≡ length bytes.old.items }
-    ensures label { block_at (blocks_of bytes.new.items) 0 ≡ label_block (bitmap_label (nat_lt 0 stamp) blocks stamp) }
-    ensures set { (s : ℕ) → s < seg_count blocks → bit_of bytes.new.items (place s) ≡ full }
-    ensures clean { IsClean bytes.new.items (seg_count blocks) }
+    ensures { AreNew bytes.new.items blocks full stamp }
 {
     let segs = seg_count(blocks);
     put_bits(bytes, FIRST, FIRST + segs, full);
@@ -237,6 +243,7 @@ fn read_bytes<D: Disk>(
     import: bool,
 ) -> Result<(Vec<u8>, u64), Why>
     ensures rest { D.seen disk.new ≡ record (D.seen disk.old) { faults = (D.seen disk.new).faults } }
+    ensures later { (D.seen disk.old).faults ≤ (D.seen disk.new).faults }
     ensures kept { IfOk result (λ p. IsKept p.0.items (seg_count blocks) (D.seen disk.old).size) }
     ensures held { IfOk result (λ p. IsTold (D.seen disk.old) → IsHeld (D.seen disk.old).image (place (seg_count blocks)) (bit_of p.0.items)) }
     ensures label { IfOk result (λ p. IsTold (D.seen disk.old)

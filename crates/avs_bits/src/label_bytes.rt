@@ -1,5 +1,5 @@
 // The bytes of a bitmap: its label, and behind it the bits.
-ghost use Rattle.std.specs.Prelude.{◌≡◌, ◌+◌, ◌*◌, ◌/◌, ◌<◌, ◌≤◌, ◌^◌, Some, IfOk, IfErr, OnOk, nat_lt, length, replicate, take, ℕ};
+ghost use Rattle.std.specs.Prelude.{◌≡◌, ◌+◌, ◌*◌, ◌/◌, ◌<◌, ◌≤◌, ◌^◌, Some, IfOk, IfErr, OnOk, IsOk, IsTrue, nat_lt, length, replicate, take, ℕ};
 ghost use Rattle.avs_seg.specs.Segment.{seg_count};
 ghost use Rattle.avs_seg.specs.Image.{block_at, blocks_of};
 ghost use Rattle.avs_seg.specs.Causes.{HasCause};
@@ -7,7 +7,7 @@ ghost use Rattle.avs_dev.specs.Seen.{IsTold, IsRange};
 ghost use Rattle.avs_bits.specs.Bit.{bit_of, IsHeld};
 ghost use Rattle.avs_code.specs.Label.{IsLabel, LabelKeeps, label_block, label_rules};
 ghost use Rattle.avs_code.specs.Rules.{Reads};
-ghost use Rattle.avs_bits.specs.BitSet.{blocks_for, bitmap_kind, bitmap_label, other_field, IsBadLabel, MakeRefused};
+ghost use Rattle.avs_bits.specs.BitSet.{blocks_for, bitmap_kind, bitmap_label, other_field, IsBadLabel, NoRoom};
 
 use crate::changes::BLOCK_BITS;
 use avs_code::{BadRecord, Label, get_label, put_label};
@@ -29,7 +29,7 @@ pub(crate) fn room<D: Disk>(alloc: Global, disk: &D, segs: u32) -> Result<Vec<u8
     ensures fits { IfOk result (λ _. blocks_for segs ≤ (D.seen disk.now).size) }
     ensures items { IfOk result (λ v. v.items ≡ replicate (512 * blocks_for segs) 0) }
     ensures len { IfOk result (λ v. length v.items ≡ 512 * blocks_for segs) }
-    ensures refused { IfErr result (λ why. MakeRefused (D.seen disk.now) segs why (D.seen disk.now)) }
+    ensures refused { IfErr result (λ why. NoRoom (D.seen disk.now) segs why (D.seen disk.now)) }
 {
     let have = disk.blocks();
     let need = 1 + segs.div_ceil(BLOCK_BITS);
@@ -83,6 +83,7 @@ pub(crate) fn read_first<D: Disk>(disk: &mut D, bytes: &mut [u8]) -> Result<(), 
     requires range { IsRange (D.seen disk.old) 0 (length bytes.old) }
     ensures rest { D.seen disk.new ≡ record (D.seen disk.old) { faults = (D.seen disk.new).faults } }
     ensures cause { HasCause (D.seen disk.old).faults (D.seen disk.new).faults result }
+    ensures sure { IsTrue (D.seen disk.old).steady → IsOk result }
     ensures len { length bytes.new ≡ length bytes.old }
     ensures label { IsTold (D.seen disk.old) → OnOk result (block_at (D.seen disk.old).image 0 ≡ take 512 bytes.new) }
     ensures held { IsTold (D.seen disk.old) → (n : ℕ) → n ≤ 8 * length bytes.old
@@ -123,6 +124,7 @@ pub(crate) fn stamp_of(bytes: &[u8], import: bool, blocks: u32) -> Result<u64, B
     requires { 512 ≤ length bytes.now }
     ensures ok { IfOk result (λ stamp. IsLabel (take 512 bytes.now) (bitmap_label import blocks stamp)) }
     ensures bad { IfErr result (λ e. IsBadLabel (take 512 bytes.now) import blocks e.0) }
+    ensures exact { (stamp : ℕ) → IsLabel (take 512 bytes.now) (bitmap_label import blocks stamp) → IsOk result }
 {
     let label = first_label(bytes)?;
     check_use(&label, import, blocks)?;

@@ -164,7 +164,41 @@ fn the_least_at_or_above(rt: HostRuntime) -> Result<(), Fail> {
     Ok(())
 }
 
-// The set after its write number `skip` was torn, as the disk holds it.
+#[test]
+fn whole_bytes_and_parts_of_bytes_are_set(rt: HostRuntime) -> Result<(), Fail> {
+    let alloc = rt.alloc();
+    let mut bits = Bits::make(alloc, disk(alloc, 2, &[])?, 64 * 64, false, 0)?;
+    set(&rt, &mut bits, 5, 20)?;
+    set(&rt, &mut bits, 34, 3)?;
+    set(&rt, &mut bits, 48, 16)?;
+    let mut disk = bits.into_disk();
+    let mut block = [1; BLOCK];
+    assert!(rt; disk.blocks() >= 2);
+    disk.read(1, &mut block)?;
+    assert!(rt; block.starts_with(b"\xe0\xff\xff\x01\x1c\0\xff\xff\0"));
+    Ok(())
+}
+
+// Segments at the ends of the blocks of bits, and of the range that is set below.
+const ENDS: [u32; 8] = [0, 4_089, 4_090, 4_095, 4_096, 8_191, 8_192, 8_199];
+
+// Whether the set has those of `ENDS` from one segment up to another.
+fn holds(rt: &impl Abort, bits: &Bits<MemDisk>, first: u32, end: u32) -> bool {
+    ENDS.iter()
+        .all(|seg| has(rt, bits, *seg) == (first <= *seg && *seg < end))
+}
+
+// Adds the segments from 4,090 on, or every segment, which fails.
+fn fail(rt: &impl Abort, bits: &mut Bits<MemDisk>, fills: bool) {
+    let result = if fills {
+        bits.fill()
+    } else {
+        set(rt, bits, 4_090, 4_110)
+    };
+    assert_eq!(rt; result, Err(Failed));
+}
+
+// The set after its write number `skip` was torn.
 fn torn(
     rt: &impl Abort,
     alloc: Global,
@@ -173,51 +207,28 @@ fn torn(
     count: u32,
 ) -> Result<Bits<MemDisk>, Fail> {
     let mut bits = make(alloc, false, &[])?;
-    assert!(rt;
-        !bits.arm(
-            1,
-            Tear {
-                skip,
-                from: 0,
-                count
-            }
-        )
-    );
-    assert!(rt;
-        bits.arm(
-            0,
-            Tear {
-                skip,
-                from: 0,
-                count
-            }
-        )
-    );
-    let result = if fills {
-        bits.fill()
-    } else {
-        set(rt, &mut bits, 4_090, 4_110)
+    let tear = Tear {
+        skip,
+        from: 0,
+        count,
     };
-    assert_eq!(rt; result, Err(Failed));
-    reload(alloc, bits)
+    assert!(rt; !bits.arm(1, tear));
+    assert!(rt; bits.arm(0, tear));
+    fail(rt, &mut bits, fills);
+    Ok(bits)
 }
 
 #[test]
 fn each_block_is_old_or_new_after_a_fault(rt: HostRuntime) -> Result<(), Fail> {
     let alloc = rt.alloc();
     for (fills, first) in [(false, 4_090), (true, 0)] {
-        for (skip, count, end) in [
-            (0, 0, 0),
-            (0, 1, 4_096),
-            (1, 0, 4_096),
-            (1, 1, 8_192),
-            (2, 0, 8_192),
-            (2, 1, 8_200),
-        ] {
-            let bits = torn(&rt, alloc, fills, skip, count)?;
-            for seg in [0, 4_089, 4_090, 4_095, 4_096, 8_191, 8_192, 8_199] {
-                let want = first <= seg && seg < end;
-                assert_eq!(rt; has(&rt, &bits, seg), want, "{fills} {skip} {count} {seg}");
+        for (skip, in_memory) in [(0, 4_096), (1, 8_192), (2, 8_200)] {
+            for (count, on_disk) in [(0, 4_096 * skip), (1, in_memory)] {
+                let bits = torn(&rt, alloc, fills, skip, count)?;
+                assert_eq!(rt; bits.written(0), Some(4 + u64::from(skip)));
+                assert!(rt; holds(&rt, &bits, first, in_memory), "{fills} {skip}");
+                let bits = reload(alloc, bits)?;
+                assert!(rt; holds(&rt, &bits, first, on_disk), "{fills} {skip} {count}");
             }
         }
     }
@@ -227,12 +238,12 @@ fn each_block_is_old_or_new_after_a_fault(rt: HostRuntime) -> Result<(), Fail> {
 #[test]
 fn a_call_of_the_list_leaves_its_block_as_it_was(rt: HostRuntime) -> Result<(), Fail> {
     let alloc = rt.alloc();
-    for (call, end) in [(2, 0), (3, 4_096), (4, 8_192)] {
-        let mut bits = make(alloc, false, &[call])?;
-        assert_eq!(rt; set(&rt, &mut bits, 0, 8_200), Err(Failed));
-        let bits = reload(alloc, bits)?;
-        for seg in [0, 4_095, 4_096, 8_191, 8_192, 8_199] {
-            assert_eq!(rt; has(&rt, &bits, seg), seg < end, "{call} {seg}");
+    for (fills, first) in [(false, 4_090), (true, 0)] {
+        for (call, on_disk) in [(2, 0), (3, 4_096), (4, 8_192)] {
+            let mut bits = make(alloc, false, &[call])?;
+            fail(&rt, &mut bits, fills);
+            let bits = reload(alloc, bits)?;
+            assert!(rt; holds(&rt, &bits, first, on_disk), "{fills} {call}");
         }
     }
     Ok(())

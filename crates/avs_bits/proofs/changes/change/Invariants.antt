@@ -1,7 +1,7 @@
-use Rattle.std.proofs.Common.{◌≡◌, ◌≤◌, ◌+◌, ◌-◌, ◌*◌, ◌/◌, min, ℕ, length}
-use Rattle.avs_seg.specs.Image.{ChangesWithin}
+use Rattle.std.proofs.Common.{◌≡◌, ◌≤◌, ◌+◌, ◌-◌, ◌*◌, ◌/◌, ◌<◌, min, ℕ, false, length}
+use Rattle.avs_seg.specs.Image.{block_at, ChangesWithin}
 use Rattle.avs_dev.specs.Seen.{IsTold}
-use Rattle.avs_bits.specs.Bit.{bit_of, IsPut, IsHeld}
+use Rattle.avs_bits.specs.Bit.{bit_of, is_due, due_below, raised, IsPut, IsHeld}
 use Rattle.avs_bits.proofs.changes.change.Given as goal
 
 abbrev pub invariant-loop-block : goal.invariant-loop-block
@@ -15,6 +15,10 @@ invariant-loop-block g l =
       told : IsTold before → IsTold now;
       later : before.faults ≤ now.faults;
       within : IsTold before → ChangesWithin (l.from / 4096) ((l.to + 4095) / 4096 - l.from / 4096) before.image now.image;
+      still : IsTold before → (k : ℕ) → is_due (bit_of l.fn.bytes.items) l.from l.to l.on k ≡ false → block_at now.image k ≡ block_at before.image k;
+      written : now.written ≡ raised before.written (due_below (bit_of l.fn.bytes.items) l.from l.to l.on l.block);
+      armed : now.armed ≡ before.armed;
+      idle : ((p : ℕ) → l.from ≤ p → p < l.to → bit_of l.fn.bytes.items p ≡ l.on) → (now ≡ before) × (l.bytes.items ≡ l.fn.bytes.items);
       put : IsPut (bit_of l.fn.bytes.items) (bit_of l.bytes.items) l.from (min (4096 * l.block) l.to) l.on;
       held : IsTold before → (n : ℕ) → IsHeld before.image n (bit_of l.fn.bytes.items) → IsHeld now.image n (bit_of l.bytes.items);
     }

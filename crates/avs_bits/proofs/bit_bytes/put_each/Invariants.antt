@@ -1,6 +1,6 @@
 use Rattle.std.proofs.Common.{◌≡◌, ◌≤◌, ◌<◌, ℕ, false, length}
 use Rattle.avs_bits.specs.Bit.{bit_of, IsPut}
-use Rattle.avs_bits.proofs.bit_bytes.put_bits.Given as goal
+use Rattle.avs_bits.proofs.bit_bytes.put_each.Given as goal
 
 abbrev pub invariant-loop-place : goal.invariant-loop-place
 invariant-loop-place l = record {

@@ -1,6 +1,6 @@
 use Rattle.std.proofs.Common.{◌≡◌, ℕ, subst, arith}
 use Rattle.avs_bits.specs.Bit.{bit_of, IsPut}
-use Rattle.avs_bits.proofs.bit_bytes.put_bits.Goals as goal
+use Rattle.avs_bits.proofs.bit_bytes.put_each.Goals as goal
 
 pub returns-clause-put : goal.returns-clause-put
 returns-clause-put c =
