@@ -2,13 +2,14 @@
 use Rattle.std.proofs.Common.{◌≡◌, ℕ, ◌-◌, ◌<◌, ◌≤◌, Bool, true, false, not, ◌&&◌, ◌||◌, cond, eqb, ltb, leb, List, [], ◌∷◌, ◌++◌, length, set, ap, subst, sym, refl, ◌∙◌, arith}
 use Rattle.std.specs.List.{All, filter, count_by, slice_index}
 use Rattle.std.specs.List.Sorted.{IsStrictlyIncreasing}
+use Rattle.std.proofs.Math.Bool.{or-false}
 use Rattle.std.proofs.lemmas.Bool.{ltb-true, lt-ltb, and_from, cond-true, eq-eqb, ne_eqb, or_right, cond_both}
 use Rattle.std.proofs.lemmas.Bool.Decides.{nat_tests}
 use Rattle.std.proofs.lemmas.List.Elements.{All-head, All-tail, All-weaker, All-push, All-from_get_or, All-filter, filter_passes}
 use Rattle.std.proofs.lemmas.List.Sums.{sum_by-set}
 use Rattle.std.proofs.lemmas.List.Kept.{IsStrictlyIncreasing-filter}
 use Rattle.avs_refs.specs.Places.{Places, greatest_at, is_among, is_idle, is_touched, IsAbove, Adds, Retires, Gives}
-use Rattle.avs_refs.proofs.Rising.{length_rising, is_among-filter, among_more, or_false}
+use Rattle.avs_refs.proofs.Rising.{length_rising, is_among-filter, among_more}
 
 -- ---- the places up to one are retired
 
@@ -79,7 +80,7 @@ idle_then outstanding place n true low =
     ap not (among_more outstanding place place ∙ or_right (is_among outstanding place) (eqb place place) (eq-eqb place place refl))
 idle_then outstanding place n false low =
     let other : eqb place n ≡ false = ne_eqb place n (λ is. omega arith) in
-    ap not (among_more outstanding place n ∙ ap (λ (b : Bool). is_among outstanding n || b) other ∙ or_false (is_among outstanding n))
+    ap not (among_more outstanding place n ∙ ap (λ (b : Bool). is_among outstanding n || b) other ∙ or-false (is_among outstanding n))
 
 pub adds : (old new : Places) (place at len : ℕ) → IsAbove place old → new.outstanding ≡ old.outstanding ++ place ∷ [] → length new.greatest ≡ length old.greatest → new.room ≡ old.room → ((seg : ℕ) → seg < length old.greatest → greatest_at new seg ≡ cond (is_touched at len seg) place (greatest_at old seg)) → Adds old place at len new
 adds old new place at len was places segs room sets = record {

@@ -2,6 +2,7 @@
 use Rattle.std.proofs.Common.{◌≡◌, inl, inr, ℕ, suc, ◌+◌, ◌-◌, ◌<◌, ◌≤◌, Bool, true, false, not, ◌&&◌, ◌||◌, eqb, ltb, List, [], ◌∷◌, ◌++◌, length, get_or, ap, subst, sym, refl, ◌∙◌, arith}
 use Rattle.std.specs.List.{filter, All}
 use Rattle.std.specs.List.Sorted.{IsStrictlyIncreasing}
+use Rattle.std.proofs.Math.Bool.{or-false}
 use Rattle.std.proofs.lemmas.Bool.{cases_lt, ltb-true, eqb-true, eq-eqb, or_cases, or_left, le-ltb, lt-ltb, false_from_ne_true, false≢true}
 use Rattle.std.proofs.lemmas.List.{length_push, get_or_append_left, get_or_push}
 use Rattle.std.proofs.lemmas.List.Elements.{All-nil, All-cons, All-head, All-tail, All-weaker}
@@ -49,14 +50,10 @@ among_all P (x ∷ xs) n all among = elim (or_cases (eqb x n) (is_among xs n) am
 pub is_among-filter : (xs : List ℕ) (upto n : ℕ) → is_among (filter (λ p. ltb upto p) xs) n ≡ (ltb upto n && is_among xs n)
 is_among-filter xs upto n = any-filter_same (λ p. eqb p n) (λ p. ltb upto p) (ltb upto n) (λ k is. ap (λ (p : ℕ). ltb upto p) (eqb-true k n is)) xs
 
-pub or_false : (b : Bool) → (b || false) ≡ b
-or_false true = refl
-or_false false = refl
-
 -- one more number
 pub among_more : (xs : List ℕ) (x n : ℕ) → is_among (xs ++ x ∷ []) n ≡ (is_among xs n || eqb x n)
 among_more xs x n =
-    list_any-append (λ p. eqb p n) xs (x ∷ []) ∙ ap (λ (b : Bool). is_among xs n || b) (or_false (eqb x n))
+    list_any-append (λ p. eqb p n) xs (x ∷ []) ∙ ap (λ (b : Bool). is_among xs n || b) (or-false (eqb x n))
 
 pub among_head : (x : ℕ) (xs : List ℕ) → is_among (x ∷ xs) x ≡ true
 among_head x xs = or_left (eqb x x) (is_among xs x) (eq-eqb x x refl)

@@ -1,13 +1,12 @@
 // The greatest place that touched each segment, and the places that are outstanding.
 ghost use Rattle.std.specs.Prelude.{◌≡◌, ◌+◌, ◌*◌, ◌^◌, ◌<◌, ◌≤◌, ◌==◌, ◌&&◌, ◌||◌, ℕ, false, if◌then◌else◌, IfOk, IfSome, IfNone, length, slice_index};
-ghost use Rattle.avs_seg.specs.Image.{is_inside};
 ghost use Rattle.avs_refs.specs.Places.{untouched, is_idle, is_left, is_touched, IsAbove, Adds, Retires, Gives, KeepsOutstanding};
 ghost use Rattle.avs_refs.specs.Listed.{has_at};
 ghost use Rattle.avs_refs.specs.Touches.{is_touched_by};
 
 use crate::candidates::Candidates;
 use crate::touch::{Touch, is_behind, is_left, pop_retired};
-use avs_seg::{NoMemory, Span, segments};
+use avs_seg::{NoMemory, Span};
 use std::alloc::Global;
 use std::collections::VecDeque;
 use std::marker::Model;
@@ -24,7 +23,7 @@ pub struct Refs {
 }
 
 impl Model for Refs {
-    ghost use Rattle.std.specs.Prelude.{◌≤◌, ◌^◌, length};
+    ghost use Rattle.std.specs.Prelude.{◌<◌, ◌≤◌, ◌^◌, length};
     ghost use Rattle.std.specs.VecDeque.{deque_capacity};
     ghost use Rattle.avs_refs.specs.Places.{Places};
     ghost use Rattle.avs_refs.specs.Touches.{places_of, IsConsistent};
@@ -34,15 +33,13 @@ impl Model for Refs {
     ghost view = { λ r. record { greatest = r.greatest.items; outstanding = places_of r.outstanding.items; room = r.room } };
 
     ghost invariant = { λ r. IsConsistent r.greatest.items r.outstanding.items r.candidates.has
-        × (length r.greatest.items ≤ 2 ^ 25)
+        × (length r.greatest.items < 2 ^ 32)
         × (r.room ≤ deque_capacity r.outstanding) };
 }
 
 impl Refs {
-    /// No segment of so many is touched, and there is room for so many outstanding places. A volume has at most 2^25
-    /// segments.
+    /// No segment of so many is touched, and there is room for so many outstanding places.
     pub fn new(alloc: Global, segs: u32, places: u32) -> Result<Refs, NoMemory>
-        requires { segs ≤ 2 ^ 25 }
         ensures untouched { IfOk result (λ r. r ≡ untouched segs places) }
         ensures above { IfOk result (λ r. (next : ℕ) → 0 < next → IsAbove next r) }
     {
@@ -54,8 +51,8 @@ impl Refs {
         })
     }
 
-    /// A place is outstanding from now on, which touches these blocks. Places rise: it is above each that is outstanding,
-    /// and above the greatest place of each segment that is still to be given.
+    /// A place is outstanding from now on, which touches these blocks. Places rise from 1: it is above each that is
+    /// outstanding, and above the greatest place of each segment that is still to be given.
     pub fn add(&mut self, place: u64, span: Span)
         requires rises { IsAbove place self.old }
         requires room { length self.old.outstanding < self.old.room }
@@ -63,14 +60,10 @@ impl Refs {
         requires inside { span.at + span.len ≤ 64 * length self.old.greatest }
         ensures { Adds self.old place span.at span.len self.new }
     {
+        let touch = Touch::new(place, span);
         let greatest = self.greatest.as_mut_slice();
-        let (first, count) = segments(span);
-        set_places(greatest, first, count, place);
-        self.outstanding.push_back_reserved(Touch {
-            place,
-            first,
-            count,
-        });
+        set_places(greatest, touch);
+        self.outstanding.push_back_reserved(touch);
     }
 
     /// Each place at or below this one is outstanding no more.
@@ -107,14 +100,14 @@ impl Refs {
     }
 }
 
-// Gives some segments a greatest place.
-fn set_places(greatest: &mut [u64], first: u32, count: u32, place: u64)
-    requires { first + count ≤ length greatest.old }
+// Makes a place the greatest of the segments that it touches.
+fn set_places(greatest: &mut [u64], touch: Touch)
+    requires { touch.first + touch.count ≤ length greatest.old }
     ensures { (seg : ℕ) → seg < length greatest.old
-        → slice_index greatest.new seg ≡ (if is_inside first count seg then place else slice_index greatest.old seg) }
+        → slice_index greatest.new seg ≡ (if is_touched_by touch seg then touch.place else slice_index greatest.old seg) }
 {
-    let from = first as usize;
-    greatest[from..from + count as usize].fill(place);
+    let from = touch.first as usize;
+    greatest[from..from + touch.count as usize].fill(touch.place);
 }
 
 // Lists the segments of a place that no later place touched.

@@ -1,8 +1,10 @@
 // A place and the segments that it touches.
 ghost use Rattle.std.specs.Prelude.{◌≡◌, ◌≤◌, ◌&&◌, ◌∷◌, true, nat_lt, IfSome, IfNone};
 ghost use Rattle.std.specs.VecDeque.{deque_capacity};
+ghost use Rattle.avs_seg.specs.Segment.{first_segment, touch_count};
 ghost use Rattle.avs_refs.specs.Touches.{places_of, is_behind};
 
+use avs_seg::{SEGMENT, Span};
 use std::collections::VecDeque;
 
 /// A place that touches `count` segments, from `first` on.
@@ -11,6 +13,24 @@ pub(crate) struct Touch {
     pub(crate) place: u64,
     pub(crate) first: u32,
     pub(crate) count: u32,
+}
+
+impl Touch {
+    // A place that touches the segments of these blocks. The block behind them may be past the end of u32.
+    pub(crate) fn new(place: u64, span: Span) -> Touch
+        ensures place { result.place ≡ place }
+        ensures first { result.first ≡ first_segment span.at }
+        ensures count { result.count ≡ touch_count span.at span.len }
+    {
+        let first = span.at / SEGMENT;
+        let behind = u64::from(span.at) + u64::from(span.len);
+        let count = behind.div_ceil(u64::from(SEGMENT)) as u32 - first;
+        Touch {
+            place,
+            first,
+            count,
+        }
+    }
 }
 
 // Whether a place is below the first of the outstanding ones.

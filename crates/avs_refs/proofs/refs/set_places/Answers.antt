@@ -8,9 +8,10 @@ use Rattle.avs_refs.proofs.refs.set_places.Goals as goal
 pub returns : goal.returns
 returns c = λ seg within.
     let greatest = c.args.greatest.now in
-    let first = c.args.first in
-    let count : first + c.args.count - first ≡ c.args.count = omega arith in
-    let long : length (take (first + c.args.count - first) (drop first greatest)) ≡ c.args.count = length-take-le (first + c.args.count - first) (drop first greatest) (omega (arith, length-drop first greatest)) ∙ count in
+    let touch = c.args.touch in
+    let first = touch.first in
+    let count : first + touch.count - first ≡ touch.count = omega arith in
+    let long : length (take (first + touch.count - first) (drop first greatest)) ≡ touch.count = length-take-le (first + touch.count - first) (drop first greatest) (omega (arith, length-drop first greatest)) ∙ count in
     ap (λ (k : ℕ). slice_index (put_mid first k greatest c.fill.new.self) seg) count
-    ∙ ap (λ (l : List ℕ). slice_index (put_mid first c.args.count greatest l) seg) (c.fill.ensures.after (λ y is. is) ∙ ap (λ (k : ℕ). replicate k c.args.place) long)
-    ∙ slice_index-put_mid greatest first c.args.count c.args.place seg c.requires
+    ∙ ap (λ (l : List ℕ). slice_index (put_mid first touch.count greatest l) seg) (c.fill.ensures.after (λ y is. is) ∙ ap (λ (k : ℕ). replicate k touch.place) long)
+    ∙ slice_index-put_mid greatest first touch.count touch.place seg c.requires
