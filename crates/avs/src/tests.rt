@@ -9,6 +9,9 @@ use std::alloc::Global;
 use std::process::Abort;
 use std::test::Fail;
 
+mod faults;
+mod filled;
+
 const ROW: &[u8] =
     b"volume p /v/a 64\nwrite p /v/a 63 1 ab\nread p /v/a 62 2\nread p /v/a 63 2\nvolume p /v/a 64\nvolume p /v/z 300000\n";
 
@@ -72,20 +75,20 @@ fn check(
 
 #[test]
 fn scripts_are_answered(rt: HostRuntime) -> Result<(), Fail> {
-    let cases: [(&[u8], u8, &[u8]); 23] = [
+    let cases: [(&[u8], u8, &[u8]); 24] = [
         (b"", 0, b""),
         (ROW, 0, ANSWERS),
         (b"# a comment\n\n \t\r\n", 0, b""),
         (b"volume p /v/a 64", 0, b"ok\n"),
         (b"\tvolume  p\t/v/a \t64\r\n", 0, b"ok\n"),
         (
-            b"volume p /v/a 64\nvolume p /v/a 65\nvolume p /v/b 262144\nvolume p /v/c 262145\n",
+            b"volume p /v/a 64\nvolume p /v/a 65\nvolume p /v/b 262144\nvolume p /v/c 262145\nvolume p /v/a 63\nvolume p /v/c 0\n",
             0,
-            b"ok\nrefused Exists\nok\nrefused Limit 262144\n",
+            b"ok\nrefused Exists\nok\nrefused Limit 262144\nrefused Exists\nrefused Size 64 0\n",
         ),
         (b"volume p /v/a 64\nfrob\n", 3, b"ok\nbad line 2\n"),
         (b"#\n\nvolume s /v/a 64\n", 3, b"bad line 3\n"),
-        (b"volume p /v/a 63\n", 3, b"bad line 1\n"),
+        (b"volume p /v/a 63\n", 0, b"refused Size 64 63\n"),
         (b"volume p /v/a 064\n", 3, b"bad line 1\n"),
         (b"volume p / 64\n", 3, b"bad line 1\n"),
         (b"volume p /v!a 64\n", 3, b"bad line 1\n"),
@@ -126,9 +129,14 @@ fn scripts_are_answered(rt: HostRuntime) -> Result<(), Fail> {
             b"ok\nok\nok\ndata 64*00\ndata 1*aa 1*00\n",
         ),
         (
-            b"volume p /v/a 64\nwrite p /v/a 0 0 11\n",
-            3,
-            b"ok\nbad line 2\n",
+            b"volume p /v/a 64\nwrite p /v/a 1 63 aa\nread p /v/a 0 64\nwrite p /v/a 0 1 aa\nread p /v/a 0 64\n",
+            0,
+            b"ok\nok\ndata 1*00 63*aa\nok\ndata 64*aa\n",
+        ),
+        (
+            b"volume p /v/a 64\nwrite p /v/a 0 0 11\nwrite p /v/a 0 256 11\nwrite p /v/a 0 257 11\nwrite p /v/b 0 257 11\n",
+            0,
+            b"ok\nrefused Length 0\nrefused Range 64\nrefused Length 257\nrefused NoVolume\n",
         ),
         (
             b"volume p /v/a 64\nwrite p /v/a 0 1 0a0b\n",
@@ -136,9 +144,9 @@ fn scripts_are_answered(rt: HostRuntime) -> Result<(), Fail> {
             b"ok\nbad line 2\n",
         ),
         (
-            b"volume p /v/a 4096\nread p /v/a 0 4096\nread p /v/a 0 4097\n",
-            3,
-            b"ok\ndata 4096*00\nbad line 3\n",
+            b"volume p /v/a 4096\nread p /v/a 0 4096\nread p /v/a 0 4097\nread p /v/a 0 0\nread p /v/a 1 4096\n",
+            0,
+            b"ok\ndata 4096*00\nrefused Length 4097\nrefused Length 0\nrefused Range 4096\n",
         ),
     ];
     for (script, status, want) in cases {

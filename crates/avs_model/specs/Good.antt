@@ -9,7 +9,7 @@ use Rattle.avs_model.specs.declared.answer.Answer.{Answer}
 -- one event and its answer
 pub record Step (steady : Bool) (old : State) (event : Event) (answer : Answer) (new : State) : Type 0 where
   pub right : Right steady old event answer
-  pub next : Next old event answer new
+  pub next : Next steady old event answer new
 
 -- from one state to another by these events, each with its answer
 abbrev pub RunTo : Bool → State → List Event → List Answer → State → Type 0

@@ -8,6 +8,8 @@ pub mod Printed
 pub mod State
 pub mod Refusals
 pub mod Stages
+pub mod Recovery
+pub mod Shadows
 pub mod Right
 pub mod Next
 pub mod Good

@@ -1,10 +1,12 @@
--- Names of hosts and volumes.
-use Rattle.std.specs.Prelude.{ℕ, ◌≤◌, IsTrue, ◌==◌, Bool, ◌&&◌, ◌||◌, nat_le, Option, None, Some, List, length, slice_index, if◌then◌else◌}
-use Rattle.std.specs.List.{list_all}
+-- Names of hosts, volumes, groups and disks.
+use Rattle.std.specs.Prelude.{ℕ, ◌≤◌, IsTrue, ◌==◌, Bool, ◌&&◌, ◌||◌, nat_le, nat_eq, Option, None, Some, List, length, drop, slice_index, if◌then◌else◌}
+use Rattle.std.specs.List.{list_all, starts_with}
 use Rattle.std.specs.Str.{bytes_eq}
 use lib.Chars.{codes}
 use Rattle.avs_model.specs.declared.event.Host.{Host}
 use Rattle.avs_model.specs.declared.event.Host.TheVariants.{P, S}
+use Rattle.avs_model.specs.declared.event.ArmTarget.{ArmTarget}
+use Rattle.avs_model.specs.declared.event.ArmTarget.TheVariants.{Volume, StateOf}
 
 -- the host that a word names
 abbrev pub host_named : List ℕ → Option Host
@@ -27,6 +29,20 @@ is_volume_name word = nat_le 2 (length word) && (nat_le (length word) 64 && (sli
 -- the volume's name that a word is
 abbrev pub volume_named : List ℕ → Option (List ℕ)
 volume_named word = if is_volume_name word then Some word else None
+
+-- 1 to 16 letters, digits, `_` or `-`
+abbrev pub is_tag : List ℕ → Bool
+is_tag word = nat_le 1 (length word) && (nat_le (length word) 16 && list_all (λ b. is_letter b || is_digit b || b == 95 || b == 45) word)
+
+-- a group's name: such a word, or that of a lone shadow set or of a lone mirror set
+abbrev pub is_group_name : List ℕ → Bool
+is_group_name word = is_tag word || is_volume_name word || (starts_with nat_eq word (codes "s:") && is_volume_name (drop 2 word))
+
+-- the disk that a word names: a volume's, or `state:` and a group's
+abbrev pub disk_named : List ℕ → Option ArmTarget
+disk_named word =
+    if is_volume_name word then Some (Volume word)
+    else (if starts_with nat_eq word (codes "state:") && is_group_name (drop 6 word) then Some (StateOf (drop 6 word)) else None)
 
 -- a volume's name, with its least and its greatest length
 pub record IsVolumeName (name : List ℕ) : Type 0 where

@@ -9,9 +9,16 @@ use Rattle.avs_model.specs.Filling.{shortest_pattern}
 use Rattle.avs_model.specs.declared.event.Host.{Host}
 use Rattle.avs_model.specs.declared.event.Host.TheVariants.{P, S}
 use Rattle.avs_model.specs.declared.answer.Refusal.{Refusal}
-use Rattle.avs_model.specs.declared.answer.Refusal.TheVariants.{Down, NoVolume, Exists, Range, Limit}
+use Rattle.avs_model.specs.declared.answer.Word.{Word}
+use Rattle.avs_model.specs.declared.answer.Word.TheVariants as word
+use Rattle.avs_model.specs.declared.answer.Refusal.TheVariants.{Down, NoVolume, NoSet, NoGroup, Exists, Length, Range, Size, Limit, WrongState, NoMemory, Fault}
+use Rattle.avs_model.specs.declared.recovered.Second.{Second}
+use Rattle.avs_model.specs.declared.recovered.Second.TheVariants as second
+use Rattle.avs_model.specs.declared.recovered.GroupLine.{GroupLine}
+use Rattle.avs_model.specs.declared.recovered.SetLine.{SetLine}
+use Rattle.avs_model.specs.declared.recovered.Recovered.{Recovered}
 use Rattle.avs_model.specs.declared.answer.Answer.{Answer}
-use Rattle.avs_model.specs.declared.answer.Answer.TheVariants.{Done, Shown, Refused, Faulted}
+use Rattle.avs_model.specs.declared.answer.Answer.TheVariants as answer
 
 -- a lower-case hexadecimal digit
 abbrev pub hex_digit : ℕ → ℕ
@@ -49,18 +56,56 @@ abbrev pub host_text : Host → List ℕ
 host_text P = codes "p"
 host_text S = codes "s"
 
+abbrev pub word_text : Word → List ℕ
+word_text word.Up = codes "up"
+word_text word.Unarmed = codes "unarmed"
+
 abbrev pub refusal_text : Refusal → List ℕ
 refusal_text (Down host) = codes "Down " ++ host_text host
 refusal_text NoVolume = codes "NoVolume"
+refusal_text NoSet = codes "NoSet"
+refusal_text NoGroup = codes "NoGroup"
 refusal_text Exists = codes "Exists"
+refusal_text (Length len) = codes "Length " ++ decimal len
 refusal_text (Range blocks) = codes "Range " ++ decimal blocks
+refusal_text (Size need have) = codes "Size " ++ decimal need ++ 32 ∷ decimal have
 refusal_text (Limit limit) = codes "Limit " ++ decimal limit
+refusal_text (WrongState word) = codes "WrongState " ++ word_text word
+refusal_text NoMemory = codes "NoMemory"
+refusal_text Fault = codes "Fault"
+
+-- the blocks of a write that read as written
+abbrev pub blocks_text : List ℕ → List ℕ
+blocks_text blocks = flat_map (λ i. 32 ∷ decimal i) blocks
+
+-- what became of the event that a fault stopped
+abbrev pub second_text : Second → List ℕ
+second_text (second.Torn volume at blocks) = codes "torn " ++ volume ++ 32 ∷ decimal at ++ blocks_text blocks
+second_text second.Kept = codes "kept"
+second_text second.Done = codes "done"
+second_text second.Clean = codes "clean"
+
+-- a group without mirror sets
+abbrev pub group_text : GroupLine → List ℕ
+group_text line = codes "group " ++ line.group ++ codes " plain session " ++ decimal line.session ++ codes " at " ++ decimal line.place
+
+abbrev pub set_text : SetLine → List ℕ
+set_text line = codes "set " ++ line.set ++ codes " left " ++ decimal line.left
+
+-- the lines on a host that is up again, with a line feed between two
+abbrev pub recovered_text : Recovered → List ℕ
+recovered_text told =
+    codes "up " ++ host_text told.host ++ 10 ∷ second_text told.second
+    ++ flat_map (λ line. 10 ∷ group_text line) told.groups
+    ++ flat_map (λ line. 10 ∷ set_text line) told.sets
 
 abbrev pub answer_text : Answer → List ℕ
-answer_text Done = codes "ok"
-answer_text (Shown blocks) = codes "data " ++ runs_text blocks
-answer_text (Refused why) = codes "refused " ++ refusal_text why
-answer_text (Faulted host) = codes "refused Fault " ++ host_text host
+answer_text answer.Done = codes "ok"
+answer_text (answer.Shown blocks) = codes "data " ++ runs_text blocks
+answer_text (answer.Down host) = codes "down " ++ host_text host
+answer_text (answer.Up told) = recovered_text told
+answer_text (answer.Refused why) = codes "refused " ++ refusal_text why
+answer_text (answer.Faulted host) = codes "refused Fault " ++ host_text host
 
 -- an answer and its line feed
 abbrev pub answer_line : Answer → List ℕ

@@ -8,9 +8,8 @@ use Rattle.avs_model.specs.Printed.{text, bad_line}
 use Rattle.avs_model.specs.State.{State, start}
 use Rattle.avs_model.specs.Refusals.{refusal}
 use Rattle.avs_model.specs.Good.{Good, RunTo}
-use Rattle.avs_model.specs.declared.event.Host.{Host}
 use Rattle.avs_model.specs.declared.event.Event.{Event}
-use Rattle.avs_model.specs.declared.event.Event.TheVariants.{Volume, Write, Read}
+use Rattle.avs_model.specs.declared.event.Event.TheVariants.{Volume}
 use Rattle.avs_model.specs.declared.answer.Answer.{Answer}
 
 -- the bytes are good answers to these events, whole
@@ -60,8 +59,7 @@ pub record IsCutBySink (steady : Bool) (given : Script) (bytes : List ℕ) : Typ
 -- the event asks the rack for a disk, where nothing refuses it
 abbrev pub AsksForDisk : State → Event → Type 0
 AsksForDisk state (Volume host name blocks) = refusal state (Volume host name blocks) ≡ None
-AsksForDisk state (Write host name at len pattern) = ⊥
-AsksForDisk state (Read host name at len) = ⊥
+AsksForDisk state event = ⊥
 
 -- the rack failed: the events before the one that asked it for a disk are answered
 pub record IsCutByRack (steady : Bool) (given : Script) (bytes : List ℕ) : Type 0 where

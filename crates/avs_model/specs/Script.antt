@@ -1,16 +1,15 @@
 -- The events of a script.
-use Rattle.std.specs.Prelude.{ℕ, ◌+◌, Bool, true, false, ◌&&◌, ◌==◌, nat_le, nat_lt, Option, None, Some, List, [], ◌∷◌, length, if◌then◌else◌}
+use Rattle.std.specs.Prelude.{ℕ, ◌+◌, Bool, true, false, ◌&&◌, ◌==◌, nat_lt, Option, None, Some, List, [], ◌∷◌, length, if◌then◌else◌}
 use Rattle.std.specs.Option.{option_map, option_and_then}
 use Rattle.std.specs.Str.{bytes_eq}
 use lib.Chars.{codes}
 use Rattle.avs_seg.specs.Lines.{line_limit}
-use Rattle.avs_model.specs.Limits.{least_volume, longest_write, longest_read}
-use Rattle.avs_model.specs.Names.{host_named, volume_named}
+use Rattle.avs_model.specs.Names.{host_named, volume_named, disk_named}
 use Rattle.avs_model.specs.Words.{words_of, number, pattern}
 use Rattle.avs_model.specs.declared.event.Host.{Host}
 use Rattle.avs_model.specs.declared.event.Host.TheVariants.{P, S}
 use Rattle.avs_model.specs.declared.event.Event.{Event}
-use Rattle.avs_model.specs.declared.event.Event.TheVariants.{Volume, Write, Read}
+use Rattle.avs_model.specs.declared.event.Event.TheVariants.{Volume, Write, Read, Arm, Crash, Recover}
 use Rattle.avs_model.specs.declared.event.Statement.{Statement}
 use Rattle.avs_model.specs.declared.event.Statement.TheVariants.{Nothing, Run}
 
@@ -35,11 +34,28 @@ read_event (host ∷ volume ∷ at ∷ len ∷ []) =
     at_volume host volume (λ h v. option_and_then (λ a. option_map (λ n. Read h v a n) (number len)) (number at))
 read_event words = None
 
+-- `arm H X SKIP FROM COUNT`
+abbrev pub arm_event : List (List ℕ) → Option Event
+arm_event (host ∷ disk ∷ skip ∷ first ∷ count ∷ []) =
+    option_and_then (λ h. option_and_then (λ s. option_and_then (λ f. option_and_then (λ c. option_map (λ d. Arm h d s f c) (disk_named disk)) (number count)) (number first)) (number skip)) (host_named host)
+arm_event words = None
+
+-- H, and no more words
+abbrev pub host_alone : List (List ℕ) → Option Host
+host_alone (host ∷ []) = host_named host
+host_alone words = None
+
+-- `crash H`, `recover H` and `arm ..`: the event that a first word and the words behind it are
+abbrev pub fault_event : List ℕ → List (List ℕ) → Option Event
+fault_event word words =
+    if bytes_eq word (codes "arm") then arm_event words
+    else (if bytes_eq word (codes "crash") then option_map Crash (host_alone words) else (if bytes_eq word (codes "recover") then option_map Recover (host_alone words) else None))
+
 -- the event that a first word and the words behind it are
 abbrev pub words_event : List ℕ → List (List ℕ) → Option Event
 words_event word words =
     if bytes_eq word (codes "volume") then volume_event words
-    else (if bytes_eq word (codes "write") then write_event words else (if bytes_eq word (codes "read") then read_event words else None))
+    else (if bytes_eq word (codes "write") then write_event words else (if bytes_eq word (codes "read") then read_event words else fault_event word words))
 
 -- the event that the words of a line are, in any form
 abbrev pub event_of : List (List ℕ) → Option Event
@@ -52,9 +68,12 @@ is_p S = false
 
 -- the forms that there are so far
 abbrev pub built : Event → Bool
-built (Volume host volume blocks) = is_p host && nat_le least_volume blocks
-built (Write host volume at len bytes) = is_p host && (nat_le 1 len && (nat_le len longest_write && length bytes == 1))
-built (Read host volume at len) = is_p host && (nat_le 1 len && nat_le len longest_read)
+built (Volume host volume blocks) = is_p host
+built (Write host volume at len bytes) = is_p host && length bytes == 1
+built (Read host volume at len) = is_p host
+built (Arm host disk skip first count) = is_p host
+built (Crash host) = is_p host
+built (Recover host) = is_p host
 
 -- the event, if its form is there
 abbrev pub if_built : Event → Option Event

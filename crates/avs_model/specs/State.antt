@@ -1,5 +1,5 @@
 -- The state of the model: everything that the answers depend on.
-use Rattle.std.specs.Prelude.{ℕ, ◌+◌, Bool, true, Option, None, Some, List, [], ◌∷◌, ◌++◌, length, find, if◌then◌else◌}
+use Rattle.std.specs.Prelude.{ℕ, ◌+◌, Bool, true, false, Option, None, List, [], ◌∷◌, find, if◌then◌else◌}
 use Rattle.std.specs.List.{sum_by}
 use Rattle.std.specs.Option.{option_map_or}
 use Rattle.std.specs.Str.{bytes_eq}
@@ -8,13 +8,15 @@ use Rattle.avs_model.specs.declared.event.Host.{Host}
 use Rattle.avs_model.specs.declared.event.Host.TheVariants.{P, S}
 use Rattle.avs_model.specs.declared.event.Event.{Event}
 
--- a volume
+-- a volume, and whether a tear is armed on its disk
 pub record VolumeState : Type 0 where
   pub name : List ℕ
   pub blocks : ℕ
   pub image : Image
+  pub armed : Bool
 
--- a host: whether it is up, else the event in which a fault stopped it, and its volumes in order of making, as its disks hold them
+-- a host: whether it is up; where it is down, the event in which a fault stopped it, or none; and its volumes in order of making, which
+-- stand as before that event until the host is brought up again
 pub record HostState : Type 0 where
   pub up : Bool
   pub stopped : Option Event
@@ -48,20 +50,32 @@ volume_of host name = find (λ volume. bytes_eq name volume.name) host.volumes
 abbrev pub image_of : HostState → List ℕ → Image
 image_of host name = option_map_or (λ volume. volume.image) (volume_of host name) []
 
+-- whether a tear is armed on its disk
+abbrev pub is_armed : HostState → List ℕ → Bool
+is_armed host name = option_map_or (λ volume. volume.armed) (volume_of host name) false
+
 -- how many blocks it has
 abbrev pub size_of : HostState → List ℕ → ℕ
 size_of host name = option_map_or (λ volume. volume.blocks) (volume_of host name) 0
 
--- the volumes, that of that name with another image
-abbrev pub with_image_of : List VolumeState → List ℕ → Image → List VolumeState
-with_image_of [] name image = []
-with_image_of (volume ∷ volumes) name image =
-    if bytes_eq name volume.name then record volume { image = image } ∷ volumes else volume ∷ with_image_of volumes name image
+-- the volumes, of which that of that name is changed
+abbrev pub with_volume_of : List VolumeState → List ℕ → (VolumeState → VolumeState) → List VolumeState
+with_volume_of [] name change = []
+with_volume_of (volume ∷ volumes) name change =
+    if bytes_eq name volume.name then change volume ∷ volumes else volume ∷ with_volume_of volumes name change
 
--- the state in which that volume alone has another image
+-- the state in which that volume alone is changed
+abbrev pub with_volume : State → Host → List ℕ → (VolumeState → VolumeState) → State
+with_volume state host name change =
+    let held = host_of state host in with_host state host (record held { volumes = with_volume_of held.volumes name change })
+
+-- the state in which it has another image
 abbrev pub with_image : State → Host → List ℕ → Image → State
-with_image state host name image =
-    let held = host_of state host in with_host state host (record held { volumes = with_image_of held.volumes name image })
+with_image state host name image = with_volume state host name (λ volume. record volume { image = image })
+
+-- the state in which a tear is armed on its disk, or none is
+abbrev pub with_armed : State → Host → List ℕ → Bool → State
+with_armed state host name armed = with_volume state host name (λ volume. record volume { armed = armed })
 
 -- the blocks of a host's volumes, and of all volumes
 abbrev pub blocks_on : HostState → ℕ

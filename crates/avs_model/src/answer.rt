@@ -3,7 +3,17 @@ ghost use Rattle.std.specs.Prelude.{Some};
 
 use crate::blocks::Blocks;
 use crate::event::Host;
+use crate::recovered::Recovered;
 use std::fmt;
+
+/// A state that excludes an event.
+#[derive(Clone, Copy, Debug, PartialEq, Eq)]
+pub enum Word {
+    /// The host is up.
+    Up,
+    /// The disk lets no tear be armed.
+    Unarmed,
+}
 
 /// Why an event is refused. The variants stand in the order in which they are answered.
 #[derive(Clone, Copy, Debug, PartialEq, Eq)]
@@ -11,11 +21,23 @@ pub enum Refusal {
     /// The host is down.
     Down(Host),
     NoVolume,
+    NoSet,
+    NoGroup,
     Exists,
+    /// A read or a write has this length, which is outside its limit.
+    Length(u32),
     /// The range ends behind the volume's end; the volume has so many blocks.
     Range(u32),
+    /// A volume has fewer blocks than its use needs.
+    Size { need: u32, have: u32 },
     /// A number or a count is outside this limit.
     Limit(u64),
+    /// A state excludes the event.
+    WrongState(Word),
+    /// Memory was refused. No answer of a run holds it.
+    NoMemory,
+    /// A disk failed. A layer does not know its host; an answer says `Faulted` with the host.
+    Fault,
 }
 
 /// What an event answers.
@@ -24,6 +46,10 @@ pub enum Answer {
     Done,
     /// The blocks that were read.
     Shown(Blocks),
+    /// The host was brought down.
+    Down(Host),
+    /// The host was brought up again.
+    Up(Recovered),
     Refused(Refusal),
     /// A disk of the host failed, and the host is down.
     Faulted(Host),
@@ -42,6 +68,19 @@ impl fmt::Display for Host {
     }
 }
 
+impl fmt::Display for Word {
+    ghost use Rattle.avs_model.specs.Printed.{word_text};
+
+    ghost output = { λ word. Some (word_text word) };
+
+    fn fmt<W: fmt::Write>(&self, f: &mut fmt::Formatter<W>) -> fmt::Result {
+        match self {
+            Word::Up => f.write_str("up"),
+            Word::Unarmed => f.write_str("unarmed"),
+        }
+    }
+}
+
 impl fmt::Display for Refusal {
     ghost use Rattle.avs_model.specs.Printed.{refusal_text};
 
@@ -51,9 +90,16 @@ impl fmt::Display for Refusal {
         match self {
             Refusal::Down(host) => write!(f, "Down {host}"),
             Refusal::NoVolume => f.write_str("NoVolume"),
+            Refusal::NoSet => f.write_str("NoSet"),
+            Refusal::NoGroup => f.write_str("NoGroup"),
             Refusal::Exists => f.write_str("Exists"),
+            Refusal::Length(len) => write!(f, "Length {len}"),
             Refusal::Range(blocks) => write!(f, "Range {blocks}"),
+            Refusal::Size { need, have } => write!(f, "Size {need} {have}"),
             Refusal::Limit(limit) => write!(f, "Limit {limit}"),
+            Refusal::WrongState(word) => write!(f, "WrongState {word}"),
+            Refusal::NoMemory => f.write_str("NoMemory"),
+            Refusal::Fault => f.write_str("Fault"),
         }
     }
 }

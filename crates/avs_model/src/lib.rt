@@ -6,11 +6,15 @@ mod blocks;
 mod entry;
 mod event;
 mod pattern;
+mod recovered;
+mod shadow;
 mod tap;
 
-pub use answer::{Answer, Refusal};
+pub use answer::{Answer, Refusal, Word};
 pub use blocks::Blocks;
 pub use entry::{Entry, EntryKind, Full, Limits};
-pub use event::{Event, Host, Name, Statement};
+pub use event::{ArmTarget, Event, Host, Name, Statement};
 pub use pattern::Pattern;
+pub use recovered::{GroupLine, GroupLines, Recovered, Second, SetLine, SetLines};
+pub use shadow::Kind;
 pub use tap::{Io, Tally, Tap, Verdict};

@@ -1,14 +1,14 @@
 -- What a line makes of a run so far.
-use Rattle.std.proofs.Common.{◌≡◌, ℕ, suc, ◌+◌, ◌-◌, ◌≤◌, ◌<◌, Bool, Option, Some, None, List, [], ◌∷◌, ◌++◌, length, take, refl, sym, ◌∙◌, ap, subst, inl, inr, arith, append_assoc, length-append}
-use Rattle.std.proofs.lemmas.List.{append-nil, take_all, take-append-le}
+use Rattle.std.proofs.Common.{◌≡◌, ℕ, ◌+◌, ◌<◌, Bool, Option, Some, None, List, [], ◌∷◌, ◌++◌, length, take, refl, sym, ◌∙◌, ap, subst, inl, inr, arith, append_assoc, length-append}
+use Rattle.std.proofs.lemmas.List.{append-nil}
 use Rattle.std.proofs.Math.Seq.{take-append-add}
 use Rattle.std.specs.Io.KnownBytes.{append_known}
 use Rattle.avs_seg.specs.Lines.{lines_limit}
 use Rattle.avs_dev.specs.Seen.{Seen}
 use Rattle.avs_model.specs.Script.{Script, script, statement, with_line, script_from}
-use Rattle.avs_model.specs.Printed.{text, answer_line, bad_line}
+use Rattle.avs_model.specs.Printed.{answer_line, bad_line}
 use Rattle.avs_model.specs.State.{State, start}
-use Rattle.avs_model.specs.Good.{RunTo, Step, Good}
+use Rattle.avs_model.specs.Good.{RunTo}
 use Rattle.avs_model.specs.Promise.{IsAnswered, IsAnsweredToBad, IsCutBySink, IsCutByRack, IsCutByMemory, AsksForDisk}
 use Rattle.avs_model.proofs.Scripts.{script-append, script_nothing, script_event, script_bad, script-events, joined}
 use Rattle.avs_model.proofs.Runs.{RunTo-more, text-more}

@@ -12,8 +12,7 @@ use Rattle.avs_model.specs.Script.{Script, script, statement, words_statement}
 use Rattle.avs_model.specs.Words.{words_of}
 use Rattle.avs_model.specs.State.{start}
 use Rattle.avs_model.specs.Good.{RunTo}
-use Rattle.avs_model.specs.Promise.{Wrote, IsWhole, IsAnswered, IsAnsweredToBad, IsCutBySource, IsCutBySink, IsCutByRack, IsCutByMemory, IsOverBudget, script_of}
-use Rattle.avs_model.specs.declared.event.Event.{Event}
+use Rattle.avs_model.specs.Promise.{Wrote, IsWhole, IsAnsweredToBad, IsCutBySource, IsCutBySink, IsCutByRack, IsCutByMemory, IsOverBudget, script_of}
 use Rattle.avs_model.proofs.Scripts.{script_of-front, script_of-all, script_of-line}
 use Rattle.avs_run.specs.Ends.{status_of, EndsIn, Printed}
 use Rattle.avs_run.specs.Bad.{TellsBad}
@@ -23,7 +22,7 @@ use Rattle.avs_run.specs.Run.{SoFar, RunsLine, Turns}
 use Rattle.avs_run.specs.declared.world.World.{World}
 use Rattle.avs_run.specs.declared.end.End.{End}
 use Rattle.avs_run.specs.declared.end.End.TheVariants as end
-use Rattle.avs_run.proofs.LineLemmas.{cut_by_memory, bad_ends, append_known-nil}
+use Rattle.avs_run.proofs.LineLemmas.{cut_by_memory, bad_ends}
 
 module _ (steady : Bool) (input : List ℕ) (left : Option (List ℕ)) (bytes : List ℕ) where
   pub wrote_whole : IsWhole steady input left bytes → Wrote steady 0 input left bytes

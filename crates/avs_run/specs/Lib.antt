@@ -1,3 +1,4 @@
+pub mod Torn
 pub mod World
 pub mod Faults
 pub mod Ends

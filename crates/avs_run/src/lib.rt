@@ -6,6 +6,7 @@ mod line;
 mod print;
 mod run;
 mod script;
+mod stopped;
 mod world;
 
 pub use script::run_script;

@@ -1,7 +1,7 @@
 // Does what a line says, and prints the answer.
-ghost use Rattle.std.specs.Prelude.{◌≡◌, ◌≤◌, ℕ, List, IsTrue, Some, Err, IfErr};
+ghost use Rattle.std.specs.Prelude.{◌≡◌, ◌≤◌, ℕ, List, IsTrue, true, Some, Err, IfErr};
 ghost use Rattle.avs_seg.specs.Causes.{Rose};
-ghost use Rattle.avs_model.specs.Script.{statement};
+ghost use Rattle.avs_model.specs.Script.{statement, built};
 ghost use Rattle.avs_model.specs.declared.event.Statement.TheVariants.{Run};
 ghost use Rattle.avs_run.specs.Ends.{IsLineEnd};
 ghost use Rattle.avs_run.specs.Run.{RunsLine};
@@ -37,7 +37,7 @@ fn run_event<K: Sink, R: Rack>(
     sink: &mut K,
     rack: &mut R,
 ) -> Result<(), End>
-    requires { (line : List ℕ) × (statement line ≡ Some (Run event.now)) }
+    requires { built event.now ≡ true }
     ensures runs { IsTrue (R.seen rack.old).tells → (line : List ℕ) → statement line ≡ Some (Run event.now) → (number : ℕ)
         → RunsLine R.D.seen (R.seen rack.old).steady line number world.old world.new (K.written sink.old) (K.written sink.new) result }
     ensures tells { (R.seen rack.new).tells ≡ (R.seen rack.old).tells }

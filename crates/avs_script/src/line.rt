@@ -2,13 +2,14 @@
 ghost use Rattle.std.specs.Prelude.{◌≡◌, ◌≤◌, ◌↔◌, Some, None, Err, IfOk, IsSome, length};
 ghost use Rattle.avs_seg.specs.Lines.{line_limit};
 ghost use Rattle.avs_model.specs.Words.{words_of};
-ghost use Rattle.avs_model.specs.Script.{volume_event, write_event, read_event, words_event, event_of, statement};
+ghost use Rattle.avs_model.specs.Script.{volume_event, write_event, read_event, host_alone, arm_event, fault_event, words_event, event_of, statement};
+ghost use Rattle.avs_model.specs.Names.{disk_named};
 ghost use Rattle.avs_model.specs.Fits.{StatementFits};
 
 use crate::built::is_built;
 use crate::error::LineError;
-use avs_model::{Event, Name, Statement};
-use avs_text::{WordReader, host_named, is_volume_name, number, pattern};
+use avs_model::{ArmTarget, Event, Host, Name, Statement};
+use avs_text::{WordReader, host_named, is_group_name, is_volume_name, number, pattern};
 use std::alloc::Global;
 
 // The most bytes of a line.
@@ -107,6 +108,87 @@ fn read_read(alloc: Global, words: &mut WordReader<'_>) -> Result<Event, LineErr
     })
 }
 
+// The disk that a word names: a volume's, or `state:` and a group's.
+fn read_disk(alloc: Global, word: &[u8]) -> Result<ArmTarget, LineError>
+    ensures ok { IfOk result (λ disk. disk_named word.now ≡ Some disk) }
+    ensures bad { (result ≡ Err LineError.Bad) ↔ (disk_named word.now ≡ None) }
+{
+    if is_volume_name(word) {
+        return Ok(ArmTarget::Volume(Name::new(alloc, word)?));
+    }
+    if word.starts_with(b"state:") && is_group_name(&word[6..]) {
+        return Ok(ArmTarget::StateOf(Name::new(alloc, &word[6..])?));
+    }
+    Err(LineError::Bad)
+}
+
+// `arm H X SKIP FROM COUNT`, behind its first word.
+fn read_arm(alloc: Global, words: &mut WordReader<'_>) -> Result<Event, LineError>
+    ensures ok { IfOk result (λ event. arm_event words.old ≡ Some event) }
+    ensures bad { (result ≡ Err LineError.Bad) ↔ (arm_event words.old ≡ None) }
+{
+    let (Some(host), Some(disk), Some(skip), Some(first), Some(count), None) = (
+        words.next(),
+        words.next(),
+        words.next(),
+        words.next(),
+        words.next(),
+        words.next(),
+    ) else {
+        return Err(LineError::Bad);
+    };
+    let (Some(host), Some(skip), Some(first), Some(count)) = (
+        host_named(host),
+        number(skip),
+        number(first),
+        number(count),
+    ) else {
+        return Err(LineError::Bad);
+    };
+    match read_disk(alloc, disk) {
+        Ok(target) => Ok(Event::Arm {
+            host,
+            target,
+            skip,
+            first,
+            count,
+        }),
+        Err(why) => Err(why),
+    }
+}
+
+// The host of `crash H` and of `recover H`, behind the first word.
+fn read_host(words: &mut WordReader<'_>) -> Option<Host>
+    ensures { result ≡ host_alone words.old }
+{
+    let (Some(host), None) = (words.next(), words.next()) else {
+        return None;
+    };
+    host_named(host)
+}
+
+// The event that a first word and the words behind it are, of those on faults.
+fn read_fault(alloc: Global, word: &[u8], words: &mut WordReader<'_>) -> Result<Event, LineError>
+    ensures ok { IfOk result (λ event. fault_event word.now words.old ≡ Some event) }
+    ensures bad { (result ≡ Err LineError.Bad) ↔ (fault_event word.now words.old ≡ None) }
+{
+    if word == b"arm".as_slice() {
+        return read_arm(alloc, words);
+    }
+    let crashes = word == b"crash".as_slice();
+    if !crashes && word != b"recover".as_slice() {
+        return Err(LineError::Bad);
+    }
+    let Some(host) = read_host(words) else {
+        return Err(LineError::Bad);
+    };
+    if crashes {
+        Ok(Event::Crash { host })
+    } else {
+        Ok(Event::Recover { host })
+    }
+}
+
 // The event that a first word and the words behind it are.
 fn read_event(alloc: Global, word: &[u8], words: &mut WordReader<'_>) -> Result<Event, LineError>
     ensures ok { IfOk result (λ event. words_event word.now words.old ≡ Some event) }
@@ -121,7 +203,7 @@ fn read_event(alloc: Global, word: &[u8], words: &mut WordReader<'_>) -> Result<
     if word == b"read".as_slice() {
         return read_read(alloc, words);
     }
-    Err(LineError::Bad)
+    read_fault(alloc, word, words)
 }
 
 /// What a line says, which comes without its line feed. Takes memory for a name alone, behind the

@@ -1,5 +1,5 @@
 use super::*;
-use avs_model::{Event, Name, Statement};
+use avs_model::{ArmTarget, Event, Name, Statement};
 use std::alloc::Global;
 use std::test::Fail;
 
@@ -49,6 +49,28 @@ fn outcome(alloc: Global, line: &[u8]) -> Result<String, Fail> {
                 },
             ),
         ) => { format!(in alloc; "{host:?} {} at {at} len {len}", text_of(&volume))? }
+        Ok(
+            Statement::Run(
+                Event::Arm {
+                    host,
+                    target,
+                    skip,
+                    first,
+                    count,
+                },
+            ),
+        ) => {
+            let (kind, name) = match &target {
+                ArmTarget::Volume(name) => ("volume", name),
+                ArmTarget::StateOf(name) => ("state", name),
+            };
+            format!(in alloc;
+                "{host:?} {kind} {} skip {skip} from {first} count {count}",
+                text_of(name)
+            )?
+        }
+        Ok(Statement::Run(Event::Crash { host })) => format!(in alloc; "{host:?} crashes")?,
+        Ok(Statement::Run(Event::Recover { host })) => format!(in alloc; "{host:?} recovers")?,
     })
 }
 
@@ -61,6 +83,32 @@ fn statements_are_read(rt: HostRuntime) -> Result<(), Fail> {
         ("write p /v/a 0 1 ff", "P /v/a at 0 len 1 of [255]"),
         ("write p /v/a 7 256 0a", "P /v/a at 7 len 256 of [10]"),
         ("read p /v/a 0 1", "P /v/a at 0 len 1"),
+        ("volume p /v/a 0", "P /v/a has 0"),
+        ("write p /v/a 0 0 ff", "P /v/a at 0 len 0 of [255]"),
+        (
+            "write p /v/a 0 4294967295 ff",
+            "P /v/a at 0 len 4294967295 of [255]",
+        ),
+        ("read p /v/a 0 4097", "P /v/a at 0 len 4097"),
+        ("arm p /v/a 0 1 2", "P volume /v/a skip 0 from 1 count 2"),
+        (
+            "arm p state:g 4294967295 0 4294967295",
+            "P state g skip 4294967295 from 0 count 4294967295",
+        ),
+        (
+            "arm p state:0123456789aZ_-zz 0 0 0",
+            "P state 0123456789aZ_-zz skip 0 from 0 count 0",
+        ),
+        (
+            "arm p state:/v/a 0 0 0",
+            "P state /v/a skip 0 from 0 count 0",
+        ),
+        (
+            "arm p state:s:/v/a 0 0 0",
+            "P state s:/v/a skip 0 from 0 count 0",
+        ),
+        ("crash p", "P crashes"),
+        (" recover\tp ", "P recovers"),
         (
             "read p /v/a 4294967295 4096",
             "P /v/a at 4294967295 len 4096",
@@ -89,7 +137,6 @@ fn other_lines_are_bad(rt: HostRuntime) -> Result<(), Fail> {
     for line in [
         "volume s /v/a 64",
         "volume P /v/a 64",
-        "volume p /v/a 63",
         "volume p /v/a 064",
         "volume p /v/a 4294967296",
         "volume p /v/a",
@@ -100,8 +147,6 @@ fn other_lines_are_bad(rt: HostRuntime) -> Result<(), Fail> {
         "volume p /2345678901234567890123456789012345678901234567890123456789012345 64",
         "volume p /v/a #64",
         "write s /v/a 0 1 ff",
-        "write p /v/a 0 0 ff",
-        "write p /v/a 0 257 ff",
         "write p /v/a 0 1 f",
         "write p /v/a 0 1 fff",
         "write p /v/a 0 1 ffff",
@@ -111,8 +156,6 @@ fn other_lines_are_bad(rt: HostRuntime) -> Result<(), Fail> {
         "write p /v/a 0 1",
         "write p /v/a 0 1 ff ff",
         "read s /v/a 0 1",
-        "read p /v/a 0 0",
-        "read p /v/a 0 4097",
         "read p /v/a 00 1",
         "read p /v/a 4294967296 1",
         "read p /v/a 0",
@@ -122,6 +165,27 @@ fn other_lines_are_bad(rt: HostRuntime) -> Result<(), Fail> {
         "read",
         "x",
         "link up",
+        "arm s /v/a 0 0 0",
+        "arm p v 0 0 0",
+        "arm p /v/a 0 0",
+        "arm p /v/a 0 0 0 0",
+        "arm p /v/a 00 0 0",
+        "arm p /v/a 0 4294967296 0",
+        "arm p state: 0 0 0",
+        "arm p state:0123456789aZ_-zzz 0 0 0",
+        "arm p state:g! 0 0 0",
+        "arm p state:s:g 0 0 0",
+        "arm p state:s: 0 0 0",
+        "arm p State:g 0 0 0",
+        "arm p land:g 0 0 0",
+        "arm p config: 0 0 0",
+        "crash",
+        "crash s",
+        "crash p p",
+        "recover",
+        "recover s",
+        "recover q",
+        "crashes p",
     ] {
         assert_eq!(rt;
             outcome(rt.alloc(), line.as_bytes())?.as_str(),

@@ -13,7 +13,7 @@ mod words;
 
 pub use equal_runs::runs;
 pub use filling::fill;
-pub use names::{host_named, is_volume_name};
+pub use names::{host_named, is_group_name, is_volume_name};
 pub use numbers::{number, pattern};
 pub use print::{answer_line, bad_line};
 pub use words::WordReader;

@@ -1,5 +1,8 @@
-use crate::{answer_line, bad_line, fill, runs};
-use avs_model::{Answer, Blocks, Host, Pattern, Refusal};
+use crate::{answer_line, bad_line, fill, is_volume_name, runs};
+use avs_model::{
+    Answer, Blocks, GroupLines, Host, Name, Pattern, Recovered, Refusal, Second, SetLines, Word,
+};
+use avs_seg::SegList;
 use std::alloc::Global;
 use std::process::Abort;
 use std::test::Fail;
@@ -107,8 +110,30 @@ fn prints_the_line_of_each_answer(rt: HostRuntime) -> Result<(), Fail> {
         (Answer::Shown(Blocks::new(bytes)), "data 2*00 1*0af0\n"),
         (Answer::Refused(Refusal::Down(Host::P)), "refused Down p\n"),
         (Answer::Refused(Refusal::NoVolume), "refused NoVolume\n"),
+        (Answer::Refused(Refusal::NoSet), "refused NoSet\n"),
+        (Answer::Refused(Refusal::NoGroup), "refused NoGroup\n"),
         (Answer::Refused(Refusal::Exists), "refused Exists\n"),
+        (
+            Answer::Refused(Refusal::Length(257)),
+            "refused Length 257\n",
+        ),
+        (
+            Answer::Refused(Refusal::WrongState(Word::Up)),
+            "refused WrongState up\n",
+        ),
+        (
+            Answer::Refused(Refusal::WrongState(Word::Unarmed)),
+            "refused WrongState unarmed\n",
+        ),
+        (Answer::Down(Host::S), "down s\n"),
         (Answer::Refused(Refusal::Range(64)), "refused Range 64\n"),
+        (
+            Answer::Refused(Refusal::Size {
+                need: 128,
+                have: 64,
+            }),
+            "refused Size 128 64\n",
+        ),
         (
             Answer::Refused(Refusal::Limit(262_144)),
             "refused Limit 262144\n",
@@ -120,5 +145,49 @@ fn prints_the_line_of_each_answer(rt: HostRuntime) -> Result<(), Fail> {
     }
     let line = bad_line(rt.alloc(), 17)?;
     assert_eq!(rt; line.as_str(), "bad line 17\n");
+    Ok(())
+}
+
+fn recovered(alloc: Global, second: Second) -> Answer {
+    Answer::Up(Recovered {
+        host: Host::P,
+        second,
+        groups: GroupLines::new(alloc),
+        sets: SetLines::new(alloc),
+    })
+}
+
+#[test]
+fn prints_the_lines_of_a_recovery(rt: HostRuntime) -> Result<(), Fail> {
+    let alloc = rt.alloc();
+    for (second, want) in [
+        (Second::Clean, "up p\nclean\n"),
+        (Second::Kept, "up p\nkept\n"),
+        (Second::Done, "up p\ndone\n"),
+    ] {
+        let line = answer_line(alloc, &recovered(alloc, second))?;
+        assert_eq!(rt; line.as_str(), want);
+    }
+    let torn: [(&[u32], &str); 3] = [
+        (&[], "up p\ntorn /v/a 100\n"),
+        (&[1, 2], "up p\ntorn /v/a 100 1 2\n"),
+        (&[0, 255], "up p\ntorn /v/a 100 0 255\n"),
+    ];
+    for (list, want) in torn {
+        let mut blocks = SegList::new(alloc);
+        for block in list {
+            blocks.push(*block)?;
+        }
+        let name = b"/v/a".as_slice();
+        assert!(rt; is_volume_name(name));
+        let volume = Name::new(alloc, name)?;
+        let second = Second::Torn {
+            volume,
+            at: 100,
+            blocks,
+        };
+        let line = answer_line(alloc, &recovered(alloc, second))?;
+        assert_eq!(rt; line.as_str(), want);
+    }
     Ok(())
 }

@@ -119,3 +119,27 @@ fn names_begin_with_a_slash(rt: HostRuntime) {
         assert_eq!(rt; is_volume_name(word.as_bytes()), want, "at {word}");
     }
 }
+
+#[test]
+fn groups_have_names(rt: HostRuntime) {
+    for (word, want) in [
+        ("g", true),
+        ("0123456789aZ_-zz", true),
+        ("0123456789aZ_-zzz", false),
+        ("", false),
+        ("g!", false),
+        ("g/h", false),
+        ("g.h", false),
+        ("g:h", false),
+        ("/v/a", true),
+        ("/", false),
+        ("s:/v/a", true),
+        ("s:/", false),
+        ("s:g", false),
+        ("s:", false),
+        ("p:/v/a", false),
+        ("s", true),
+    ] {
+        assert_eq!(rt; is_group_name(word.as_bytes()), want, "at {word}");
+    }
+}

@@ -1,11 +1,7 @@
-use Rattle.std.proofs.Common.{◌≡◌, ◌∙◌, ◌+◌, [], ◌∷◌, ℕ, List, Err, take, sym, ap}
+use Rattle.std.proofs.Common.{◌∙◌, [], ◌∷◌, Err, take, sym, ap}
 use Rattle.avs_model.specs.Printed.{answer_line}
-use Rattle.avs_model.proofs.Scripts.{built-statement}
 use Rattle.avs_run.proofs.LineLemmas.{event_done, cut_by_memory, cut_by_rack, cut_answer, append_known-nil}
 use Rattle.avs_run.proofs.line.run_event.Goals as goal
-
-pub step-requires : goal.step-requires
-step-requires g c = built-statement c.requires.0 c.args.event.now c.requires.1
 
 pub returns-in-Err-Rack-clause-runs : goal.returns-in-Err-Rack-clause-runs
 returns-in-Err-Rack-clause-runs g c tells line is number =

@@ -1,4 +1,4 @@
-use Rattle.std.proofs.Common.{◌≡◌, ◌∙◌, ◌+◌, [], ◌∷◌, ℕ, List, Some, Err, sym, ap}
+use Rattle.std.proofs.Common.{◌∙◌, [], ◌∷◌, Some, Err, sym, ap}
 use Rattle.avs_run.proofs.LineLemmas.{nothing_done, cut_by_memory, bad_ends, append_known-nil}
 use Rattle.avs_run.proofs.line.run_line.Goals as goal
 

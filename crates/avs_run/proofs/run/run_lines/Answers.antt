@@ -1,4 +1,4 @@
-use Rattle.std.proofs.Common.{◌≡◌, ◌∙◌, ◌+◌, ◌≤◌, [], ◌∷◌, ◌++◌, ℕ, List, None, Some, sym, ap, subst, refl, arith, append_assoc}
+use Rattle.std.proofs.Common.{◌∙◌, [], ◌∷◌, ◌++◌, sym, refl, arith}
 use Rattle.avs_run.proofs.LineLemmas.{append_known-nil, append_known-append, so_far_none}
 use Rattle.avs_run.proofs.run.run_lines.Goals as goal
 

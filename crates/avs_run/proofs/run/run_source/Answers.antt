@@ -1,4 +1,4 @@
-use Rattle.std.proofs.Common.{◌≡◌, [], List, ℕ, Option, Some, subst, rules}
+use Rattle.std.proofs.Common.{[], List, ℕ, Option, subst, rules}
 use Rattle.avs_io.specs.Given.{HasGiven}
 use Rattle.avs_io.specs.Reader.{reader_of}
 use Rattle.avs_model.specs.Promise.{Wrote}

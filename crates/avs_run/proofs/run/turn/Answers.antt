@@ -1,13 +1,12 @@
-use Rattle.std.proofs.Common.{◌≡◌, ◌∙◌, ◌+◌, ◌<◌, [], ◌∷◌, ◌++◌, ℕ, List, Some, Ok, Err, Option, length, sym, ap, subst, arith}
+use Rattle.std.proofs.Common.{◌≡◌, ◌∙◌, ◌+◌, [], Some, Ok, Err, sym, ap, subst, arith}
 use Rattle.std.specs.Prelude.{Result}
 use Rattle.std.specs.Io.KnownBytes.{prepend_known}
-use Rattle.avs_seg.specs.Lines.{lines_limit}
 use Rattle.avs_io.specs.Given.{GoesOn}
 use Rattle.avs_io.specs.Reader.{reader_of, held}
 use Rattle.avs_io.specs.declared.lines.Next.{Next}
 use Rattle.avs_io.specs.declared.lines.Next.TheVariants.{Line, Long, End, Budget}
 use Rattle.avs_io.specs.declared.lines.LineFault.{LineFault}
-use Rattle.avs_io.specs.declared.lines.LineFault.TheVariants.{Read, NoMemory}
+use Rattle.avs_io.specs.declared.lines.LineFault.TheVariants.{Read}
 use Rattle.avs_run.proofs.LineLemmas.{append_known-nil}
 use Rattle.avs_run.proofs.TurnLemmas.{ends_whole, ends_budget, ends_source, ends_memory, ends_long, nothing_left, turns_line}
 use Rattle.avs_run.proofs.run.turn.Goals as goal

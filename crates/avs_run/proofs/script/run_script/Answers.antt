@@ -1,4 +1,4 @@
-use Rattle.std.proofs.Common.{◌≡◌, [], sym}
+use Rattle.std.proofs.Common.{[], sym}
 use Rattle.avs_run.proofs.LineLemmas.{append_known-nil}
 use Rattle.avs_run.proofs.TurnLemmas.{wrote_words}
 use Rattle.avs_run.proofs.script.run_script.Goals as goal

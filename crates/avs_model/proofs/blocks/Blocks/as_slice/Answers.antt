@@ -1,4 +1,4 @@
-use Rattle.std.proofs.Common.{◌≡◌, ◌*◌, ◌/◌, length, sym, ◌∙◌, ap, arith}
+use Rattle.std.proofs.Common.{length, ap, arith}
 use Rattle.avs_seg.proofs.Bytes.{length-blocks_of}
 use Rattle.avs_model.proofs.blocks.Blocks.as_slice.Goals as goal
 
