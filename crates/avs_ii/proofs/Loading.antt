@@ -1,0 +1,507 @@
+-- A group that is found on its parts or not, and taken apart.
+use Rattle.std.proofs.Common.{◌≡◌, ◌⊎◌, inl, inr, ℕ, zero, suc, ◌^◌, ◌<◌, ◌≤◌, Bool, true, false, cond, ◌&&◌, IsTrue, All, List, [], ◌∷◌, ◌++◌, length, map, Option, None, Some, is_some, refl, sym, ◌∙◌, ap, subst, arith}
+use Rattle.std.specs.List.{list_all, range_with_len}
+use Rattle.std.specs.Option.{option_map}
+use Rattle.std.proofs.lemmas.Bool.{false≢true}
+use Rattle.std.proofs.lemmas.List.{length-map, map-append, append-nil}
+use Rattle.std.proofs.lemmas.List.Folds.{list_all-append}
+use Rattle.avs_seg.specs.Image.{Image, block_at}
+use Rattle.avs_seg.specs.Segment.{seg_count}
+use Rattle.avs_seg.specs.Causes.{Rose}
+use Rattle.avs_dev.specs.Seen.{Seen, IsTold}
+use Rattle.avs_dev.specs.Devices.{NoneFell, OneRose}
+use Rattle.avs_dev.specs.declared.back.Why.{Why}
+use Rattle.avs_dev.specs.declared.back.Why.TheVariants.{Size, BadRecord, NoMemory, Fault}
+use Rattle.avs_flip.specs.Areas.{Areas, live}
+use Rattle.avs_code.specs.Label.{IsLabel}
+use Rattle.avs_code.specs.GroupBlock.{GroupBlockKeeps, GroupBlockFits, IsGroupBlock}
+use Rattle.avs_code.specs.declared.slot_table.Slot.{Slot}
+use Rattle.avs_code.specs.declared.group_blocks.GroupBlock.{GroupBlock}
+use Rattle.avs_model.specs.Shadows.{Online, Offline, Exported, Standing, GroupState}
+use Rattle.avs_model.specs.declared.shadow.Kind.{Kind}
+use Rattle.avs_model.specs.declared.shadow.Kind.TheVariants.{Ind, Dep, Compact}
+use Rattle.avs_chunk.specs.States.{state_on, blocks_for}
+use Rattle.avs_chunk.specs.ChunkSet.{ChunkSet, disk_of, disk_state, both_disks, shadow_label}
+use Rattle.avs_chunk.specs.Making.{areas_on}
+use Rattle.avs_ii.specs.Held.{HeldSet, slot_in, is_live, has_flag, area_b, offline, exported, enabled_in}
+use Rattle.avs_ii.specs.Meaning.{group_by, meaning, kept_on, standing_of, picked, disk_image, shadow_by}
+use Rattle.avs_ii.specs.Sound.{IsSound, HoldsBlock, IsSoundSet, HasNoneBack, AreSound}
+use Rattle.avs_ii.specs.Kept.{IsHeld, IsKept}
+use Rattle.avs_ii.specs.SetDisks.{SetDisks}
+use Rattle.avs_ii.specs.Parts.{PartDisks, size_of, held_on, set_parts, parts_of, meaning_of_parts}
+use Rattle.avs_ii.specs.Making.{IsPlaced, ArePlaced, IsLabelled, IsSetSettled, IsSetTold, AreTold, AreWhole, FitsSlot, StateRefused, Loads, LoadRefused, WhyNotFound, no_faults, set_no_faults, parts_no_faults, disks_in, between, kind_number}
+use Rattle.avs_ii.specs.Opening.{live_area, OpensChunks, OpensSet, WhyNotOpened, SetRefused, OpensOne, RefusesOne, IsOnDisks, AreFew}
+use Rattle.avs_dev.specs.Below.{IsNoteTold}
+use Rattle.avs_ii.specs.AsBelow.{below_of, rest_of, group_of}
+use Rattle.avs_ii.proofs.Quiet.{group_quiet, group_quiet_none}
+use Rattle.avs_ii.proofs.Commits.{stored_some}
+use Rattle.avs_ii.proofs.Several.{fell_nil, fell_same, fell_cons, fell_append, rose_here, rose_there, rose_right}
+use Rattle.avs_ii.proofs.Making.{the_group, kept_is, all_none, all_of, of_all}
+
+-- ---- a set that is opened
+
+module _ (slots : List Slot) (V : List Seen) (s : SetDisks) (chunks : ChunkSet) (placed : IsPlaced slots V s) (o : OpensChunks slots s.slot s.kind s.shadow s.bitmap (size_of V s.master) chunks) where
+  abbrev held : HeldSet
+  held = record { slot = s.slot; master = s.master; chunks = chunks }
+
+  area_is : is_live slots s.slot ≡ true → chunks.areas.live_b ≡ has_flag area_b (slot_in slots s.slot)
+  area_is l = ap (λ (c : ChunkSet). c.areas.live_b) o.is ∙ ap (λ (b : Bool). cond b (has_flag area_b (slot_in slots s.slot)) false) l
+
+  first_is : is_live slots s.slot ≡ false → chunks.areas.live_b ≡ false
+  first_is l = ap (λ (c : ChunkSet). c.areas.live_b) o.is ∙ ap (λ (b : Bool). cond b (has_flag area_b (slot_in slots s.slot)) false) l
+
+  blocks_are : chunks.blocks ≡ size_of V s.master
+  blocks_are = ap (λ (c : ChunkSet). c.blocks) o.is
+
+  shadow_are : chunks.shadow ≡ s.shadow
+  shadow_are = ap (λ (c : ChunkSet). c.shadow) o.is
+
+  bitmap_image : chunks.areas.disk.image ≡ s.bitmap.image
+  bitmap_image = ap (λ (d : Seen). d.image) o.disk
+
+  bitmap_size : chunks.areas.disk.size ≡ s.bitmap.size
+  bitmap_size = ap (λ (d : Seen). d.size) o.disk
+
+  online_is : (slot : Slot) → has_flag offline slot ≡ false → has_flag exported slot ≡ false → standing_of slot ≡ Online
+  online_is slot off exp =
+      ap (λ (b : Bool). cond b (Exported slot.stamp) (cond (has_flag offline slot) (Offline slot.need slot.slots) Online)) exp
+      ∙ ap (λ (b : Bool). cond b (Offline slot.need slot.slots) Online) off
+
+  held_opened : IsHeld slots V held
+  held_opened = record {
+    slot = placed.slot;
+    master = placed.master;
+    there = subst (λ (q : Option Seen). IsTrue (is_some q)) (sym (shadow_are ∙ o.there)) refl;
+    blocks = sym blocks_are;
+    whole = subst (λ (k : Kind). (k ≡ Ind) ⊎ (k ≡ Dep)) (sym (ap (λ (c : ChunkSet). c.kind) o.is)) placed.whole;
+    area = area_is;
+    first = first_is;
+    number = λ l. (placed.fits l).number ∙ ap (λ (k : Kind). kind_number k) (sym (ap (λ (c : ChunkSet). c.kind) o.is));
+    online = λ l. online_is (slot_in slots s.slot) (placed.fits l).online (placed.fits l).here;
+    settled = o.settled;
+    some = omega (arith, placed.some, blocks_are);
+  }
+
+  -- the states on the bitmap, by the live area
+  states_are : is_live slots s.slot ≡ true → (c : ℕ) → disk_state chunks c ≡ state_on (live (areas_on s.bitmap (size_of V s.master) (has_flag area_b (slot_in slots s.slot)))) c
+  unfolding live
+  states_are l c =
+      ap (λ (x : ChunkSet). disk_state x c) o.is
+      ∙ ap (λ (b : Bool). state_on (live (areas_on chunks.areas.disk (size_of V s.master) b)) c) (ap (λ (b : Bool). cond b (has_flag area_b (slot_in slots s.slot)) false) l)
+      ∙ ap (λ (x : Seen). state_on (live (areas_on x (size_of V s.master) (has_flag area_b (slot_in slots s.slot)))) c) o.disk
+
+  none_back : is_live slots s.slot ≡ true → IsTold s.bitmap → HasNoneBack chunks
+  none_back l told = record { none = λ c lt is. o.settled.none c lt ((o.step l told).each c lt ∙ is) }
+
+  settled_opened : IsTold s.bitmap → IsSetSettled slots V s
+  settled_opened told = record { none_back = λ l. record { none = λ c lt is. (none_back l told).none c (subst (λ (n : ℕ). c < seg_count n) (sym blocks_are) lt) (states_are l c ∙ is) } }
+
+  labelled_opened : IsTold s.bitmap → IsLabelled slots V s
+  labelled_opened told = record { label = λ l. subst (λ (n : ℕ). IsLabel (block_at s.bitmap.image 0) (shadow_label n)) blocks_are (subst (λ (i : Image). IsLabel (block_at i 0) (shadow_label chunks.blocks)) bitmap_image (o.label l told).label) }
+
+  sound_opened : IsSetTold s → is_live slots s.slot ≡ true → IsSoundSet slots held
+  sound_opened told l = record {
+    known = record {
+      shadow = subst (λ (q : Option Seen). IsTold (disk_of q)) (sym shadow_are) told.shadow;
+      bitmap = ap (λ (i : Image). length i) bitmap_image ∙ told.bitmap ∙ sym bitmap_size;
+      step = o.step l told.bitmap;
+    };
+    label = o.label l told.bitmap;
+    area = area_is l;
+    none_back = none_back l told.bitmap;
+  }
+
+  sounds_opened : IsSetTold s → All (IsSoundSet slots) (enabled_in slots (held ∷ []))
+  sounds_opened told = by_live (is_live slots s.slot) refl
+    where
+      by_live : (b : Bool) → is_live slots s.slot ≡ b → All (IsSoundSet slots) (cond (is_live slots s.slot) (held ∷ []) [])
+      by_live true l = subst (λ (b : Bool). All (IsSoundSet slots) (cond b (held ∷ []) [])) (sym l) (all_of (IsSoundSet slots) held (sound_opened told l))
+      by_live false l = subst (λ (b : Bool). All (IsSoundSet slots) (cond b (held ∷ []) [])) (sym l) (all_none (IsSoundSet slots))
+
+  parts_opened : set_no_faults (set_parts held) ≡ set_no_faults s
+  parts_opened = λ i. record {
+    slot = s.slot;
+    kind = ap (λ (c : ChunkSet). c.kind) o.is i;
+    master = s.master;
+    shadow = ap (λ (q : Option Seen). option_map no_faults q) shadow_are i;
+    bitmap = ap (λ (d : Seen). no_faults d) o.disk i;
+    over = sym placed.plain i;
+  }
+
+-- ---- the group does not depend on what is in memory of a set
+
+-- a set by what its disks hold
+abbrev set_with : ℕ → Kind → ℕ → Option Seen → Seen → ℕ → Bool → List ℕ → HeldSet
+set_with slot kind master shadow bitmap blocks live_b memory = record { slot = slot; master = master; chunks = record { kind = kind; shadow = shadow; areas = areas_on bitmap blocks live_b; memory = memory; blocks = blocks } }
+
+-- a group by the sets that are enabled
+abbrev by_enabled : List Slot → List ℕ → List Seen → List HeldSet → GroupState
+by_enabled slots note V l = record { volumes = map (λ v. picked slots l v (disk_image V v)) (range_with_len 0 (length V)); sets = map (λ s. shadow_by slots V s) l; note = note }
+
+pub same_group : (slots : List Slot) (note : List ℕ) (V : List Seen) (slot : ℕ) (kind : Kind) (master : ℕ) (shadow : Option Seen) (bitmap : Seen) (faults blocks : ℕ) (live_b : Bool) (memory : List ℕ)
+    → group_by slots note V (set_with slot kind master shadow (record bitmap { faults = faults }) blocks live_b memory ∷ []) ≡ group_by slots note V (set_with slot kind master shadow bitmap blocks false [] ∷ [])
+unfolding live
+same_group slots note V slot kind master shadow bitmap faults blocks live_b memory = go (is_live slots slot)
+  where
+    go : (b : Bool) → by_enabled slots note V (cond b (set_with slot kind master shadow (record bitmap { faults = faults }) blocks live_b memory ∷ []) []) ≡ by_enabled slots note V (cond b (set_with slot kind master shadow bitmap blocks false [] ∷ []) [])
+    go false = refl
+    go true = at_kind kind
+      where
+        at_kind : (k : Kind) → by_enabled slots note V (set_with slot k master shadow (record bitmap { faults = faults }) blocks live_b memory ∷ []) ≡ by_enabled slots note V (set_with slot k master shadow bitmap blocks false [] ∷ [])
+        at_kind Ind = refl
+        at_kind Dep = refl
+        at_kind Compact = refl
+
+-- ---- a group that is taken apart
+
+module _ (slots : List Slot) (note : List ℕ) (V : List Seen) (h : HeldSet) (own : IsHeld slots V h) (on : IsOnDisks h) where
+  pub meaning_set : (slots' : List Slot) → group_by slots' note V (held_on V (set_parts h) ∷ []) ≡ group_by slots' note V (h ∷ [])
+  meaning_set slots' =
+      ap (λ (n : ℕ). group_by slots' note V (set_with h.slot h.chunks.kind h.master h.chunks.shadow h.chunks.areas.disk n false [] ∷ [])) own.blocks
+      ∙ sym (same_group slots' note V h.slot h.chunks.kind h.master h.chunks.shadow h.chunks.areas.disk h.chunks.areas.disk.faults h.chunks.blocks h.chunks.areas.live_b h.chunks.memory)
+      ∙ ap (λ (a : Areas). group_by slots' note V (record { slot = h.slot; master = h.master; chunks = record { kind = h.chunks.kind; shadow = h.chunks.shadow; areas = a; memory = h.chunks.memory; blocks = h.chunks.blocks } } ∷ [])) (sym on.areas)
+
+  online_fits : is_live slots h.slot ≡ true → FitsSlot (slot_in slots h.slot) h.chunks.kind
+  online_fits l = record { number = own.number l; online = by_flags.0; here = by_flags.1 }
+    where
+      flags : (e o : Bool) (stamp need n : ℕ) → cond e (Exported stamp) (cond o (Offline need n) Online) ≡ Online → (o ≡ false) × (e ≡ false)
+      flags true o stamp need n is = absurd (false≢true (sym (ap is_exported is)))
+        where
+          is_exported : Standing → Bool
+          is_exported (Exported k) = true
+          is_exported other = false
+      flags false true stamp need n is = absurd (false≢true (sym (ap is_offline is)))
+        where
+          is_offline : Standing → Bool
+          is_offline (Offline a b) = true
+          is_offline other = false
+      flags false false stamp need n is = (refl, refl)
+
+      by_flags : (has_flag offline (slot_in slots h.slot) ≡ false) × (has_flag exported (slot_in slots h.slot) ≡ false)
+      by_flags = flags (has_flag exported (slot_in slots h.slot)) (has_flag offline (slot_in slots h.slot)) (slot_in slots h.slot).stamp (slot_in slots h.slot).need (slot_in slots h.slot).slots (own.online l)
+
+  there_is : (q : Option Seen) → IsTrue (is_some q) → q ≡ Some (disk_of q)
+  there_is None t = cc
+  there_is (Some d) t = refl
+
+  placed_set : IsPlaced slots V (set_parts h)
+  placed_set =
+      let there = there_is h.chunks.shadow own.there in
+      record {
+        slot = own.slot;
+        master = own.master;
+        there = there;
+        shadow = omega (arith, own.blocks, on.fits.shadow (disk_of h.chunks.shadow) there);
+        bitmap = subst (λ (n : ℕ). blocks_for (seg_count n) ≤ h.chunks.areas.disk.size) (sym own.blocks) on.fits.bitmap;
+        some = omega (arith, own.some, own.blocks);
+        whole = own.whole;
+        plain = refl;
+        fits = online_fits;
+      }
+
+  -- what soundness says of an enabled set
+  sound_live : AreSound slots V (h ∷ []) → is_live slots h.slot ≡ true → IsSoundSet slots h
+  sound_live sound l = of_all (IsSoundSet slots) h (subst (λ (b : Bool). All (IsSoundSet slots) (cond b (h ∷ []) [])) l sound.each)
+
+  labelled_set : AreSound slots V (h ∷ []) → IsLabelled slots V (set_parts h)
+  labelled_set sound = record { label = λ l. subst (λ (n : ℕ). IsLabel (block_at h.chunks.areas.disk.image 0) (shadow_label n)) (sym own.blocks) (sound_live sound l).label.label }
+
+  settled_set : AreSound slots V (h ∷ []) → IsSetSettled slots V (set_parts h)
+  settled_set sound = record { none_back = λ l. record { none = λ c lt is. (sound_live sound l).none_back.none c (subst (λ (n : ℕ). c < seg_count n) own.blocks lt) (same l c ∙ is) } }
+    where
+      same : is_live slots h.slot ≡ true → (c : ℕ) → disk_state h.chunks c ≡ state_on (live (areas_on h.chunks.areas.disk (size_of V h.master) (has_flag area_b (slot_in slots h.slot)))) c
+      same l c =
+          ap (λ (a : Areas). state_on (live a) c) on.areas
+          ∙ ap (λ (b : Bool). state_on (live (areas_on h.chunks.areas.disk h.chunks.blocks b)) c) (own.area l)
+          ∙ ap (λ (n : ℕ). state_on (live (areas_on h.chunks.areas.disk n (has_flag area_b (slot_in slots h.slot)))) c) (sym own.blocks)
+
+module _ (state : Seen) (block : GroupBlock) (V : List Seen) where
+  pub meaning_parts : (sets : List HeldSet) → length sets ≤ 1 → IsKept state block V sets → All IsOnDisks sets → meaning_of_parts (parts_of (the_group state block V sets)) ≡ meaning (the_group state block V sets)
+  meaning_parts [] one kept on = refl
+  meaning_parts (h ∷ []) one kept on = meaning_set block.slots (kept_on state).note V h (of_all (IsHeld block.slots V) h kept.held) (of_all IsOnDisks h on) (kept_on state).slots
+  meaning_parts (h ∷ k ∷ l) one kept on = absurd (omega (arith, one))
+
+  pub rest_parts : (sets : List HeldSet) → length sets ≤ 1 → IsNoteTold (below_of (the_group state block V sets)) → meaning (the_group state block V sets) ≡ record (group_of (rest_of (the_group state block V sets))) { note = (kept_on state).note }
+  rest_parts [] one told =
+      let is = (stored_some block.slots state told).slots_are in
+      ap (λ (s : List Slot). group_by s (kept_on state).note V []) is ∙ sym (group_quiet_none block.slots (kept_on state).note V)
+  rest_parts (h ∷ []) one told =
+      let is = (stored_some block.slots state told).slots_are in
+      ap (λ (s : List Slot). group_by s (kept_on state).note V (h ∷ [])) is ∙ sym (group_quiet block.slots (kept_on state).note V h)
+  rest_parts (h ∷ k ∷ l) one told = absurd (omega (arith, one))
+
+  pub whole_parts : (sets : List HeldSet) → length sets ≤ 1 → IsKept state block V sets → All IsOnDisks sets → IsSound (the_group state block V sets) → AreWhole (parts_of (the_group state block V sets))
+  whole_parts sets one kept on sound =
+      let is = kept_is state block sound.holds in
+      let slots : (kept_on state).slots ≡ block.slots = ap (λ (b : GroupBlock). b.slots) is in
+      record {
+        state = kept.room;
+        label = sound.holds.label;
+        block = subst (λ (b : GroupBlock). IsGroupBlock (block_at state.image 1) b) (sym is) sound.holds.holds;
+        placed = record {
+          each = subst (λ (s : List Slot). All (IsPlaced s V) (map set_parts sets)) (sym slots) (all_placed sets one kept.held on);
+          one = omega (arith, one, length-map sets set_parts);
+          count = kept.count;
+          none = refl;
+        };
+        labelled = subst (λ (s : List Slot). All (IsLabelled s V) (map set_parts sets)) (sym slots) (all_labelled sets one kept.held on sound.disks);
+        settled = subst (λ (s : List Slot). All (IsSetSettled s V) (map set_parts sets)) (sym slots) (all_settled sets one kept.held on sound.disks);
+      }
+    where
+      all_placed : (sets : List HeldSet) → length sets ≤ 1 → All (IsHeld block.slots V) sets → All IsOnDisks sets → All (IsPlaced block.slots V) (map set_parts sets)
+      all_placed [] one held on = all_none (IsPlaced block.slots V)
+      all_placed (h ∷ []) one held on = all_of (IsPlaced block.slots V) (set_parts h) (placed_set block.slots [] V h (of_all (IsHeld block.slots V) h held) (of_all IsOnDisks h on))
+      all_placed (h ∷ k ∷ l) one held on = absurd (omega (arith, one))
+
+      all_labelled : (sets : List HeldSet) → length sets ≤ 1 → All (IsHeld block.slots V) sets → All IsOnDisks sets → AreSound block.slots V sets → All (IsLabelled block.slots V) (map set_parts sets)
+      all_labelled [] one held on sound = all_none (IsLabelled block.slots V)
+      all_labelled (h ∷ []) one held on sound = all_of (IsLabelled block.slots V) (set_parts h) (labelled_set block.slots [] V h (of_all (IsHeld block.slots V) h held) (of_all IsOnDisks h on) sound)
+      all_labelled (h ∷ k ∷ l) one held on sound = absurd (omega (arith, one))
+
+      all_settled : (sets : List HeldSet) → length sets ≤ 1 → All (IsHeld block.slots V) sets → All IsOnDisks sets → AreSound block.slots V sets → All (IsSetSettled block.slots V) (map set_parts sets)
+      all_settled [] one held on sound = all_none (IsSetSettled block.slots V)
+      all_settled (h ∷ []) one held on sound = all_of (IsSetSettled block.slots V) (set_parts h) (settled_set block.slots [] V h (of_all (IsHeld block.slots V) h held) (of_all IsOnDisks h on) sound)
+      all_settled (h ∷ k ∷ l) one held on sound = absurd (omega (arith, one))
+
+-- ---- a group that is found
+
+abbrev pub the_parts : Seen → List Seen → List SetDisks → PartDisks
+the_parts state V S = record { state = state; volumes = V; sets = S; overs = [] }
+
+module _ (state state' : Seen) (rest : state' ≡ record state { faults = state'.faults }) where
+  kept_same : kept_on state' ≡ kept_on state
+  kept_same = ap (λ (d : Seen). kept_on d) rest
+
+  state_same : no_faults state' ≡ no_faults state
+  state_same = ap (λ (d : Seen). no_faults d) rest
+
+  holds_same : (block : GroupBlock) → HoldsBlock state block → HoldsBlock state' block
+  holds_same block h = subst (λ (d : Seen). HoldsBlock d block) (sym rest) (record { told = h.told; label = h.label; holds = h.holds })
+
+-- the counts of faults of a set's disks
+abbrev counts : List Seen → List ℕ
+counts l = map (λ (d : Seen). d.faults) l
+
+later_set : (V : List Seen) (slot : ℕ) (kind : Kind) (master : ℕ) (shadow : Option Seen) (bitmap bitmap' : Seen) (over : Option ℕ) (state state' : Seen) → IsTrue (is_some shadow) → state.faults ≤ state'.faults → bitmap.faults ≤ bitmap'.faults
+    → NoneFell (counts (disks_in (the_parts state V (record { slot = slot; kind = kind; master = master; shadow = shadow; bitmap = bitmap; over = over } ∷ [])))) (counts (state' ∷ (V ++ (both_disks shadow bitmap' ++ []))))
+later_set V slot kind master None bitmap bitmap' over state state' t le le' = cc
+later_set V slot kind master (Some d) bitmap bitmap' over state state' t le le' =
+    subst (λ (l : List Seen). NoneFell (counts (state ∷ l)) (counts (state' ∷ (V ++ (d ∷ bitmap' ∷ []))))) (sym (append-nil (V ++ (d ∷ bitmap ∷ []))))
+    (fell_cons state.faults state'.faults _ _ le
+    (subst (λ (l : List ℕ). NoneFell l (counts (V ++ (d ∷ bitmap' ∷ [])))) (sym (map-append (λ (x : Seen). x.faults) V (d ∷ bitmap ∷ [])))
+    (subst (λ (l : List ℕ). NoneFell (counts V ++ (d.faults ∷ bitmap.faults ∷ [])) l) (sym (map-append (λ (x : Seen). x.faults) V (d ∷ bitmap' ∷ [])))
+    (fell_append (counts V) (counts V) (d.faults ∷ bitmap.faults ∷ []) (d.faults ∷ bitmap'.faults ∷ []) (fell_same (counts V)) (fell_cons d.faults d.faults _ _ (omega arith) (fell_cons bitmap.faults bitmap'.faults _ _ le' fell_nil))))))
+
+-- what was read of the state disk
+pub record IsRead (state : Seen) (block : GroupBlock) (state' : Seen) : Type 0 where
+  pub rest : state' ≡ record state { faults = state'.faults }
+  pub later : state.faults ≤ state'.faults
+  pub room : 64 ≤ state.size
+  pub holds : IsTold state → HoldsBlock state block
+  pub keeps : GroupBlockKeeps block
+  pub fits : GroupBlockFits block
+
+module _ (state state' : Seen) (block : GroupBlock) (V : List Seen) (read : IsRead state block state') (count : length V < 2 ^ 32) where
+  room_same : 64 ≤ state'.size
+  room_same = omega (arith, read.room, ap (λ (d : Seen). d.size) read.rest)
+
+  kept_held : (sets : List HeldSet) → All (IsHeld block.slots V) sets → IsKept state' block V sets
+  kept_held sets held = record { room = room_same; keeps = read.keeps; fits = read.fits; count = count; held = held }
+
+  slots_are : IsTold state → (kept_on state).slots ≡ block.slots
+  slots_are told = ap (λ (b : GroupBlock). b.slots) (kept_is state block (read.holds told))
+
+  whole_by : (S : List SetDisks) → IsTold state → All (IsPlaced block.slots V) S → length S ≤ 1 → All (IsLabelled block.slots V) S → All (IsSetSettled block.slots V) S → AreWhole (the_parts state V S)
+  whole_by S told placed one labelled settled =
+      let h = read.holds told in
+      let slots = slots_are told in
+      record {
+        state = read.room;
+        label = h.label;
+        block = subst (λ (b : GroupBlock). IsGroupBlock (block_at state.image 1) b) (sym (kept_is state block h)) h.holds;
+        placed = record { each = subst (λ (s : List Slot). All (IsPlaced s V) S) (sym slots) placed; one = one; count = count; none = refl };
+        labelled = subst (λ (s : List Slot). All (IsLabelled s V) S) (sym slots) labelled;
+        settled = subst (λ (s : List Slot). All (IsSetSettled s V) S) (sym slots) settled;
+      }
+
+  loads_none : Loads (the_parts state V []) (the_group state' block V [])
+  loads_none = record {
+    disks = ap (λ (d : Seen). record { state = d; volumes = map no_faults V; sets = []; overs = [] }) (state_same state state' read.rest);
+    later = subst (λ (l : List Seen). NoneFell (counts (state ∷ l)) (counts (state' ∷ (V ++ [])))) (sym (append-nil (V ++ []))) (fell_cons state.faults state'.faults _ _ read.later (fell_same (counts (V ++ []))));
+    whole = λ told. whole_by [] told.state (all_none (IsPlaced block.slots V)) (omega arith) (all_none (IsLabelled block.slots V)) (all_none (IsSetSettled block.slots V));
+    group = ap (λ (b : GroupBlock). group_by b.slots b.note V []) (kept_same state state' read.rest);
+    block = λ told. sym (kept_is state block (read.holds told));
+    sound = λ told. record { holds = holds_same state state' read.rest block (read.holds told.state); disks = record { told = told.volumes; each = all_none (IsSoundSet block.slots) } };
+  }
+
+  module _ (s : SetDisks) (chunks : ChunkSet) (placed : IsPlaced block.slots V s) (o : OpensChunks block.slots s.slot s.kind s.shadow s.bitmap (size_of V s.master) chunks) where
+    abbrev found : HeldSet
+    found = record { slot = s.slot; master = s.master; chunks = chunks }
+
+    same_found : (slots : List Slot) (note : List ℕ) → group_by slots note V (found ∷ []) ≡ group_by slots note V (held_on V s ∷ [])
+    same_found slots note =
+        ap (λ (c : ChunkSet). group_by slots note V (record { slot = s.slot; master = s.master; chunks = c } ∷ [])) o.is
+        ∙ ap (λ (d : Seen). group_by slots note V (set_with s.slot s.kind s.master s.shadow d (size_of V s.master) (live_area block.slots s.slot) chunks.memory ∷ [])) o.disk
+        ∙ same_group slots note V s.slot s.kind s.master s.shadow s.bitmap chunks.areas.disk.faults (size_of V s.master) (live_area block.slots s.slot) chunks.memory
+
+    loads_found : Loads (the_parts state V (s ∷ [])) (the_group state' block V (found ∷ []))
+    loads_found = record {
+      disks = λ i. record { state = state_same state state' read.rest i; volumes = map no_faults V; sets = parts_opened block.slots V s chunks placed o i ∷ []; overs = [] };
+      later = subst (λ (q : Option Seen). NoneFell (counts (disks_in (the_parts state V (s ∷ [])))) (counts (state' ∷ (V ++ (both_disks q chunks.areas.disk ++ []))))) (sym (shadow_are block.slots V s chunks placed o))
+          (later_set V s.slot s.kind s.master s.shadow s.bitmap chunks.areas.disk s.over state state' (subst (λ (q : Option Seen). IsTrue (is_some q)) (sym o.there) refl) read.later o.later);
+      whole = λ told. whole_by (s ∷ []) told.state (all_of (IsPlaced block.slots V) s placed) (omega arith)
+          (all_of (IsLabelled block.slots V) s (labelled_opened block.slots V s chunks placed o (of_all IsSetTold s told.sets).bitmap))
+          (all_of (IsSetSettled block.slots V) s (settled_opened block.slots V s chunks placed o (of_all IsSetTold s told.sets).bitmap));
+      group = ap (λ (b : GroupBlock). group_by b.slots b.note V (found ∷ [])) (kept_same state state' read.rest) ∙ same_found (kept_on state).slots (kept_on state).note;
+      block = λ told. sym (kept_is state block (read.holds told));
+      sound = λ told. record { holds = holds_same state state' read.rest block (read.holds told.state); disks = record { told = told.volumes; each = sounds_opened block.slots V s chunks placed o (of_all IsSetTold s told.sets) } };
+    }
+
+  found_is : (s : SetDisks) (h : HeldSet) → OpensSet block.slots V s h → record { slot = s.slot; master = s.master; chunks = h.chunks } ≡ h
+  found_is s h o = λ i. record { slot = sym o.slot i; master = sym o.master i; chunks = h.chunks }
+
+  pub loads_one : (S : List SetDisks) (sets : List HeldSet) → length S ≤ 1 → OpensOne block.slots V S sets → Loads (the_parts state V S) (the_group state' block V sets)
+  loads_one [] sets one w = subst (λ (l : List HeldSet). Loads (the_parts state V []) (the_group state' block V l)) (sym w) loads_none
+  loads_one (s ∷ []) sets one w =
+      subst (λ (l : List HeldSet). Loads (the_parts state V (s ∷ [])) (the_group state' block V l)) (sym w.1.0)
+      (subst (λ (h : HeldSet). Loads (the_parts state V (s ∷ [])) (the_group state' block V (h ∷ []))) (found_is s w.0 w.1.1) (loads_found s w.0.chunks w.1.1.placed w.1.1.chunks))
+  loads_one (s ∷ r ∷ l) sets one w = absurd (omega (arith, one))
+
+  pub kept_one : (S : List SetDisks) (sets : List HeldSet) → length S ≤ 1 → OpensOne block.slots V S sets → IsKept state' block V sets
+  kept_one [] sets one w = kept_held sets (subst (λ (l : List HeldSet). All (IsHeld block.slots V) l) (sym w) (all_none (IsHeld block.slots V)))
+  kept_one (s ∷ []) sets one w =
+      kept_held sets (subst (λ (l : List HeldSet). All (IsHeld block.slots V) l) (sym w.1.0)
+      (all_of (IsHeld block.slots V) w.0 (subst (λ (h : HeldSet). IsHeld block.slots V h) (found_is s w.0 w.1.1) (held_opened block.slots V s w.0.chunks w.1.1.placed w.1.1.chunks))))
+  kept_one (s ∷ r ∷ l) sets one w = absurd (omega (arith, one))
+
+-- ---- no group is found
+
+and_false_left : (a b : Bool) → a ≡ false → (a && b) ≡ false
+and_false_left a b e = ap (λ (t : Bool). t && b) e
+
+and_false_right : (a b : Bool) → b ≡ false → (a && b) ≡ false
+and_false_right true b e = e
+and_false_right false b e = refl
+
+abbrev pub the_disks : Seen → List Seen → List SetDisks → List Seen → PartDisks
+the_disks state V S O = record { state = state; volumes = V; sets = S; overs = O }
+
+module _ (state state' : Seen) (V : List Seen) (S : List SetDisks) (O : List Seen) (rest : state' ≡ record state { faults = state'.faults }) (later : state.faults ≤ state'.faults) where
+  same_parts : parts_no_faults (the_disks state' V S O) ≡ parts_no_faults (the_disks state V S O)
+  same_parts = ap (λ (d : Seen). record { state = d; volumes = map no_faults V; sets = map set_no_faults S; overs = map no_faults O }) (state_same state state' rest)
+
+  pub read_refused : (why : Why) → StateRefused state why state' → LoadRefused (record { state = state; volumes = V; sets = S; overs = O }) why (record { state = state'; volumes = V; sets = S; overs = O })
+  read_refused why w = record { parts = same_parts; later = fell_cons state.faults state'.faults _ _ later (fell_same _); cause = cause_of why w }
+    where
+      cause_of : (why : Why) → StateRefused state why state' → WhyNotFound (the_disks state V S O) why (the_disks state' V S O)
+      cause_of (Size need have) w = absurd w
+      cause_of (BadRecord field) (inl w) = λ told. (inl (record { number = w.1; broken = inl w.0 }), λ whole. omega (arith, w.0, whole.state))
+      cause_of (BadRecord field) (inr w) = λ told. (inr (inl (w.1 told.state).0), λ whole. (w.1 told.state).1 (record { block = kept_on state; label = whole.label; holds = whole.block }))
+      cause_of NoMemory w = absurd w
+      cause_of Fault w = (rose_here _ _ _ _ w.0, and_false_left _ _ w.1)
+
+  pub odd_refused : (AreFew (length V) (length S) (length O) → ⊥) → LoadRefused (record { state = state; volumes = V; sets = S; overs = O }) (BadRecord between) (record { state = state'; volumes = V; sets = S; overs = O })
+  odd_refused not_few = record {
+    parts = same_parts;
+    later = fell_cons state.faults state'.faults _ _ later (fell_same _);
+    cause = λ told. (inl (record { number = refl; broken = inr (inl (λ p. not_few (few p))) }), λ whole. not_few (few whole.placed));
+  }
+    where
+      few : ArePlaced (kept_on state).slots (the_disks state V S O) → AreFew (length V) (length S) (length O)
+      few p = record { count = p.count; one = p.one; none = ap (λ (l : List Seen). length l) p.none }
+
+module _ (V : List Seen) (slot : ℕ) (kind : Kind) (master : ℕ) (over : Option ℕ) (bitmap bitmap' : Seen) (state state' : Seen) where
+  abbrev set_on : Option Seen → Seen → SetDisks
+  set_on shadow b = record { slot = slot; kind = kind; master = master; shadow = shadow; bitmap = b; over = over }
+
+  spread : (l l' : List Seen) (P : List ℕ → List ℕ → Type 0) → P (counts V ++ counts l) (counts V ++ counts l') → P (counts ((V ++ l) ++ [])) (counts ((V ++ l') ++ []))
+  spread l l' P p =
+      subst (λ (x : List ℕ). P x (counts ((V ++ l') ++ []))) (sym (ap (λ (m : List Seen). counts m) (append-nil (V ++ l)) ∙ map-append (λ (d : Seen). d.faults) V l))
+      (subst (λ (x : List ℕ). P (counts V ++ counts l) x) (sym (ap (λ (m : List Seen). counts m) (append-nil (V ++ l')) ∙ map-append (λ (d : Seen). d.faults) V l')) p)
+
+  later_refused : (shadow : Option Seen) → state.faults ≤ state'.faults → bitmap.faults ≤ bitmap'.faults → NoneFell (counts (disks_in (the_parts state V (set_on shadow bitmap ∷ [])))) (counts (disks_in (the_parts state' V (set_on shadow bitmap' ∷ []))))
+  later_refused None le le' = fell_cons state.faults state'.faults _ _ le (spread (bitmap ∷ []) (bitmap' ∷ []) NoneFell (fell_append (counts V) (counts V) _ _ (fell_same (counts V)) (fell_cons bitmap.faults bitmap'.faults _ _ le' (fell_same _))))
+  later_refused (Some d) le le' = fell_cons state.faults state'.faults _ _ le (spread (d ∷ bitmap ∷ []) (d ∷ bitmap' ∷ []) NoneFell (fell_append (counts V) (counts V) _ _ (fell_same (counts V)) (fell_cons d.faults d.faults _ _ (omega arith) (fell_cons bitmap.faults bitmap'.faults _ _ le' (fell_same _)))))
+
+  rose_refused : (shadow : Option Seen) → Rose bitmap.faults bitmap'.faults → OneRose (counts (disks_in (the_parts state V (set_on shadow bitmap ∷ [])))) (counts (disks_in (the_parts state' V (set_on shadow bitmap' ∷ []))))
+  rose_refused None r = rose_there state.faults state'.faults _ _ (spread (bitmap ∷ []) (bitmap' ∷ []) OneRose (rose_right (counts V) (counts V) _ _ refl (rose_here bitmap.faults bitmap'.faults _ _ r)))
+  rose_refused (Some d) r = rose_there state.faults state'.faults _ _ (spread (d ∷ bitmap ∷ []) (d ∷ bitmap' ∷ []) OneRose (rose_right (counts V) (counts V) _ _ refl (rose_there d.faults d.faults _ _ (rose_here bitmap.faults bitmap'.faults _ _ r))))
+
+  unsteady : (shadow : Option Seen) → bitmap.steady ≡ false → list_all (λ (d : Seen). d.steady) (disks_in (the_parts state V (set_on shadow bitmap ∷ []))) ≡ false
+  unsteady None e = and_false_right state.steady _ (ap (λ (m : List Seen). list_all (λ (d : Seen). d.steady) m) (append-nil (V ++ (bitmap ∷ []))) ∙ list_all-append (λ (d : Seen). d.steady) V (bitmap ∷ []) ∙ and_false_right (list_all (λ (d : Seen). d.steady) V) _ (and_false_left bitmap.steady _ e))
+  unsteady (Some d) e = and_false_right state.steady _ (ap (λ (m : List Seen). list_all (λ (d : Seen). d.steady) m) (append-nil (V ++ (d ∷ bitmap ∷ []))) ∙ list_all-append (λ (d : Seen). d.steady) V (d ∷ bitmap ∷ []) ∙ and_false_right (list_all (λ (d : Seen). d.steady) V) _ (and_false_right d.steady _ (and_false_left bitmap.steady _ e)))
+
+module _ (state state' : Seen) (block : GroupBlock) (V : List Seen) (read : IsRead state block state') (s : SetDisks) where
+  cause_set : (why : Why) (b : Seen) → WhyNotOpened block.slots V s why b → WhyNotFound (the_parts state V (s ∷ [])) why (the_parts state' V (record s { bitmap = b } ∷ []))
+  cause_set (Size need have) b w = absurd w
+  cause_set (BadRecord field) b (inl w) = λ told.
+      let slots = slots_of told in
+      let odd : All (IsPlaced (kept_on state).slots V) (s ∷ []) → ⊥ = λ p. w.1 (of_all (IsPlaced block.slots V) s (subst (λ (x : List Slot). All (IsPlaced x V) (s ∷ [])) slots p)) in
+      (inl (record { number = w.0; broken = inr (inl (λ p. odd p.each)) }), λ whole. odd whole.placed.each)
+    where
+      slots_of : AreTold (the_parts state V (s ∷ [])) → (kept_on state).slots ≡ block.slots
+      slots_of told = ap (λ (b : GroupBlock). b.slots) (kept_is state block (read.holds told.state))
+  cause_set (BadRecord field) b (inr (inl w)) = λ told.
+      let slots = slots_of told in
+      let label = w.1 (of_all IsSetTold s told.sets).bitmap in
+      let live' : is_live (kept_on state).slots s.slot ≡ true = ap (λ (x : List Slot). is_live x s.slot) slots ∙ w.0 in
+      (inr (inr (0, s, omega arith, refl, record { live = live'; label = label.0 })), λ whole. label.1 ((of_all (IsLabelled (kept_on state).slots V) s whole.labelled).label live'))
+    where
+      slots_of : AreTold (the_parts state V (s ∷ [])) → (kept_on state).slots ≡ block.slots
+      slots_of told = ap (λ (b : GroupBlock). b.slots) (kept_is state block (read.holds told.state))
+  cause_set (BadRecord field) b (inr (inr w)) = λ told.
+      let slots = slots_of told in
+      let odd : All (IsSetSettled (kept_on state).slots V) (s ∷ []) → ⊥ = λ p. w.1 (of_all IsSetTold s told.sets).bitmap (of_all (IsSetSettled block.slots V) s (subst (λ (x : List Slot). All (IsSetSettled x V) (s ∷ [])) slots p)) in
+      (inl (record { number = w.0; broken = inr (inr odd) }), λ whole. odd whole.settled)
+    where
+      slots_of : AreTold (the_parts state V (s ∷ [])) → (kept_on state).slots ≡ block.slots
+      slots_of told = ap (λ (b : GroupBlock). b.slots) (kept_is state block (read.holds told.state))
+  cause_set NoMemory b w = tt
+  cause_set Fault b w = (rose_refused V s.slot s.kind s.master s.over s.bitmap b state state' s.shadow w.0, unsteady V s.slot s.kind s.master s.over s.bitmap b state state' s.shadow w.1)
+
+  set_refused : (why : Why) (s' : SetDisks) → SetRefused block.slots V s why s' → LoadRefused (the_parts state V (s ∷ [])) why (the_parts state' V (s' ∷ []))
+  set_refused why s' w = subst (λ (x : SetDisks). LoadRefused (the_parts state V (s ∷ [])) why (the_parts state' V (x ∷ []))) (sym w.is) (record {
+    parts = ap (λ (d : Seen). record { state = d; volumes = map no_faults V; sets = set_no_faults s ∷ []; overs = [] }) (state_same state state' read.rest);
+    later = later_refused V s.slot s.kind s.master s.over s.bitmap (record s.bitmap { faults = s'.bitmap.faults }) state state' s.shadow read.later w.later;
+    cause = cause_set why (record s.bitmap { faults = s'.bitmap.faults }) (subst (λ (d : Seen). WhyNotOpened block.slots V s why d) (ap (λ (x : SetDisks). x.bitmap) w.is) w.cause);
+  })
+
+  pub one_refused : (S S' : List SetDisks) (why : Why) → length S ≤ 1 → S ≡ s ∷ [] → RefusesOne block.slots V S why S' → LoadRefused (the_parts state V S) why (the_parts state' V S')
+  one_refused S S' why one is w =
+      let r = subst (λ (l : List SetDisks). RefusesOne block.slots V l why S') is w in
+      subst (λ (l : List SetDisks). LoadRefused (the_parts state V l) why (the_parts state' V S')) (sym is)
+      (subst (λ (l : List SetDisks). LoadRefused (the_parts state V (s ∷ [])) why (the_parts state' V l)) (sym r.1.0) (set_refused why r.0 r.1.1))
+
+pub take_refused : (state state' : Seen) (block : GroupBlock) (V : List Seen) (read : IsRead state block state') (S S' : List SetDisks) (why : Why) → length S ≤ 1 → RefusesOne block.slots V S why S' → LoadRefused (the_parts state V S) why (the_parts state' V S')
+take_refused state state' block V read [] S' why one w = absurd w
+take_refused state state' block V read (s ∷ []) S' why one w = one_refused state state' block V read s (s ∷ []) S' why one refl w
+take_refused state state' block V read (s ∷ r ∷ l) S' why one w = absurd (omega (arith, one))
+
+-- ---- what a call has of parts
+
+pub finish_refused : (P P' Q Q' : PartDisks) (why why' : Why) → P ≡ P' → Q' ≡ Q → why' ≡ why → LoadRefused P why Q → LoadRefused P' why' Q'
+finish_refused P P' Q Q' why why' p q w r =
+    subst (λ (x : PartDisks). LoadRefused x why' Q') p
+    (subst (λ (x : PartDisks). LoadRefused P why' x) (sym q)
+    (subst (λ (x : Why). LoadRefused P x Q) (sym w) r))
+
+pub few_seen : {D X : Type 0} (seen : D → Seen) (disks : X → SetDisks) (v v' : List D) (r r' : List X) (o o' : List D) → v ≡ v' → r ≡ r' → o ≡ o' → AreFew (length v) (length r) (length o) → AreFew (length (map seen v')) (length (map disks r')) (length (map seen o'))
+few_seen {D = D} {X = X} seen disks v v' r r' o o' ev er eo few = record {
+  count = omega (arith, few.count, length-map v' seen, ap (λ (l : List D). length l) ev);
+  one = omega (arith, few.one, length-map r' disks, ap (λ (l : List X). length l) er);
+  none = omega (arith, few.none, length-map o' seen, ap (λ (l : List D). length l) eo);
+}
+
+pub few_back : {D X : Type 0} (seen : D → Seen) (disks : X → SetDisks) (v v' : List D) (r r' : List X) (o o' : List D) → v ≡ v' → r ≡ r' → o ≡ o' → AreFew (length (map seen v')) (length (map disks r')) (length (map seen o')) → AreFew (length v) (length r) (length o)
+few_back {D = D} {X = X} seen disks v v' r r' o o' ev er eo few = record {
+  count = omega (arith, few.count, length-map v' seen, ap (λ (l : List D). length l) ev);
+  one = omega (arith, few.one, length-map r' disks, ap (λ (l : List X). length l) er);
+  none = omega (arith, few.none, length-map o' seen, ap (λ (l : List D). length l) eo);
+}
+
+pub nil_of : (l : List Seen) → length l ≡ zero → l ≡ []
+nil_of [] e = refl
+nil_of (x ∷ l) e = absurd (none (length l) e)
+  where
+    none : (n : ℕ) → suc n ≡ zero → ⊥
+    none n e = omega (arith, e)

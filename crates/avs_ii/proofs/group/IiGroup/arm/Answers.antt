@@ -1,0 +1,46 @@
+use Rattle.std.proofs.Common.{rules, ◌≡◌, ◌-◌, ◌<◌, ◌≤◌, ◌∙◌, ℕ, vec_len, length, refl, subst, arith}
+use Rattle.avs_chunk.specs.Arming.{ArmsOne}
+use Rattle.avs_ii.proofs.Views.{room_some}
+use Rattle.avs_ii.proofs.Arming.{volume_arms_as, volume_arms_kept, set_arms_as, set_arms_kept_as, no_set_arms}
+use Rattle.avs_ii.proofs.group.IiGroup.arm.Goals as goal
+
+pub returns-then-place-len : goal.returns-then-place-len
+returns-then-place-len g c =
+    let i = c.self.inside in
+    let place : ℕ = c.args.disk - 1 in
+    let lt : place < length i.volumes.items = search rules in
+    volume_arms_as g.D.Disk.seen (g.D.Disk.seen i.state) i.block i.volumes.items i.set c.args.self.now c.self.view_is c.self.invariant.0 c.args.disk place (omega (arith, c.if-disk-eq0.false)) c.index_mut.result.now c.arm-then-place-len.new.self c.index_mut.ensures.value lt c.arm-then-place-len.result c.arm-then-place-len.ensures
+
+pub invariant_of-self-then-place-len : goal.invariant_of-self-then-place-len
+invariant_of-self-then-place-len g c =
+    let i = c.self.inside in
+    let place : ℕ = c.args.disk - 1 in
+    let lt : place < length i.volumes.items = search rules in
+    (volume_arms_kept g.D.Disk.seen (g.D.Disk.seen i.state) i.block i.volumes.items i.set c.args.self.now c.self.view_is c.self.invariant.0 c.args.disk place (omega (arith, c.if-disk-eq0.false)) c.index_mut.result.now c.arm-then-place-len.new.self c.index_mut.ensures.value lt c.arm-then-place-len.result c.arm-then-place-len.ensures, c.self.invariant.1)
+
+pub returns-in-Some : goal.returns-in-Some
+returns-in-Some g c =
+    let i = c.self.inside in
+    let place : ℕ = c.args.disk - 1 in
+    let le : length i.volumes.items ≤ place = search rules in
+    let long : vec_len i.volumes ≡ length i.volumes.items = search rules in
+    set_arms_as g.D.Disk.seen (g.D.Disk.seen i.state) i.block i.volumes.items i.set c.args.self.now c.self.view_is c.self.invariant.0 c.args.disk place (omega (arith, c.if-disk-eq0.false)) c.in-Some.held c.in-Some.is le c.arm-in-Some.new.self c.arm-in-Some.result
+    (subst (λ (k : ℕ). ArmsOne c.in-Some.held.chunks (place - k) c.arm-in-Some.result c.arm-in-Some.new.self) (c.len-2.ensures ∙ long) c.arm-in-Some.ensures)
+
+pub invariant_of-self-in-Some : goal.invariant_of-self-in-Some
+invariant_of-self-in-Some g c =
+    let i = c.self.inside in
+    let place : ℕ = c.args.disk - 1 in
+    let le : length i.volumes.items ≤ place = search rules in
+    let long : vec_len i.volumes ≡ length i.volumes.items = search rules in (
+      set_arms_kept_as g.D.Disk.seen (g.D.Disk.seen i.state) i.block i.volumes.items i.set c.args.self.now c.self.view_is c.self.invariant.0 c.args.disk place (omega (arith, c.if-disk-eq0.false)) c.in-Some.held c.in-Some.is le c.arm-in-Some.new.self c.arm-in-Some.result
+          (subst (λ (k : ℕ). ArmsOne c.in-Some.held.chunks (place - k) c.arm-in-Some.result c.arm-in-Some.new.self) (c.len-2.ensures ∙ long) c.arm-in-Some.ensures),
+      room_some i.set c.in-Some.held c.in-Some.is c.self.invariant.1 refl,
+    )
+
+pub returns : goal.returns
+returns g c =
+    let i = c.self.inside in
+    let place : ℕ = c.args.disk - 1 in
+    let le : length i.volumes.items ≤ place = search rules in
+    rw c.self.view_is (no_set_arms g.D.Disk.seen (g.D.Disk.seen i.state) i.block i.volumes.items i.set c.args.self.now c.self.view_is c.self.invariant.0 c.args.disk place (omega (arith, c.if-disk-eq0.false)) c.in_default.is le)

@@ -1,0 +1,43 @@
+use Rattle.std.proofs.Common.{◌≡◌, List, [], map, sym, ap, subst, ◌∙◌}
+use Rattle.avs_ii.specs.Held.{IiDisks}
+use Rattle.avs_ii.specs.Meaning.{meaning, kept_on}
+use Rattle.avs_ii.specs.Sound.{IsSound}
+use Rattle.avs_ii.specs.Opened.{sets_of}
+use Rattle.avs_dev.specs.Below.{IsNoteTold}
+use Rattle.avs_ii.specs.AsBelow.{below_of, rest_of, group_of}
+use Rattle.avs_ii.specs.SetDisks.{SetDisks}
+use Rattle.avs_ii.specs.Parts.{PartDisks, part_disks, parts_of, meaning_of_parts}
+use Rattle.avs_ii.specs.Making.{AreWhole}
+use Rattle.avs_ii.proofs.Making.{at_most_one}
+use Rattle.avs_ii.proofs.Loading.{meaning_parts, rest_parts, whole_parts}
+use Rattle.avs_ii.proofs.group.IiGroup.into_parts.Goals as goal
+
+pub returns-clause-meaning : goal.returns-clause-meaning
+returns-clause-meaning g c =
+    let i = c.self.inside in
+    let seen = g.D.Disk.seen in
+    let parts : part_disks seen c.all_parts.result ≡ parts_of c.args.self = c.all_parts.ensures
+    ∙ ap (λ (l : List SetDisks). record { state = seen i.state; volumes = map seen i.volumes.items; sets = l; overs = [] }) c.close_all.ensures.parts
+    ∙ ap (λ (d : IiDisks). parts_of d) c.self.view_is in
+    ap (λ (p : PartDisks). meaning_of_parts p) parts
+    ∙ subst (λ (d : IiDisks). meaning_of_parts (parts_of d) ≡ meaning d) c.self.view_is
+    (meaning_parts (seen i.state) i.block (map seen i.volumes.items) (sets_of i.set) (at_most_one i.set) c.self.invariant.0 c.close_all.ensures.on)
+
+pub returns-clause-rest : goal.returns-clause-rest
+returns-clause-rest g c =
+    let i = c.self.inside in
+    let seen = g.D.Disk.seen in
+    subst (λ (d : IiDisks). IsNoteTold (below_of d) → meaning d ≡ record (group_of (rest_of d)) { note = (kept_on d.state).note }) c.self.view_is
+    (rest_parts (seen i.state) i.block (map seen i.volumes.items) (sets_of i.set) (at_most_one i.set))
+
+pub returns-clause-whole : goal.returns-clause-whole
+returns-clause-whole g c =
+    let i = c.self.inside in
+    let seen = g.D.Disk.seen in
+    let parts : part_disks seen c.all_parts.result ≡ parts_of c.args.self = c.all_parts.ensures
+    ∙ ap (λ (l : List SetDisks). record { state = seen i.state; volumes = map seen i.volumes.items; sets = l; overs = [] }) c.close_all.ensures.parts
+    ∙ ap (λ (d : IiDisks). parts_of d) c.self.view_is in
+    λ sound told.
+    subst (λ (p : PartDisks). AreWhole p) (sym parts)
+    (subst (λ (d : IiDisks). IsSound d → AreWhole (parts_of d)) c.self.view_is
+    (whole_parts (seen i.state) i.block (map seen i.volumes.items) (sets_of i.set) (at_most_one i.set) c.self.invariant.0 c.close_all.ensures.on) sound)

@@ -1,0 +1,83 @@
+-- A group as volumes to write to, and what one write makes of the rest of it.
+use Rattle.std.specs.Prelude.{◌≡◌, ℕ, ◌/◌, ◌==◌, ◌&&◌, Bool, true, false, if◌then◌else◌, List, [], length, map, Option, None, Some, slice_set, slice_index}
+use Rattle.std.specs.Option.{option_map}
+use Rattle.std.specs.Cmp.Lexicographic.{pointwise}
+use Rattle.avs_seg.specs.Image.{blocks_of}
+use Rattle.avs_dev.specs.Seen.{Seen}
+use Rattle.avs_dev.specs.Memory.{counted}
+use Rattle.avs_dev.specs.Below.{BelowSeen}
+use Rattle.avs_code.specs.declared.slot_table.Slot.{Slot}
+use Rattle.avs_model.specs.Shadows.{GroupState, GroupStage, after_stages, StoppedIn, volume_write_stages}
+use Rattle.avs_chunk.specs.ChunkSet.{ChunkSet}
+use Rattle.avs_ii.specs.Held.{HeldSet, IiDisks, pending_in}
+use Rattle.avs_ii.specs.Meaning.{group_by, kept_on}
+use Rattle.avs_ii.specs.Sound.{AreSound}
+use Rattle.avs_ii.specs.Calls.{faults_of, armed_of, are_steady}
+
+-- whether two slots are the same
+abbrev pub same_slot : Slot → Slot → Bool
+same_slot a b = a.flags == b.flags && a.kind == b.kind && a.need == b.need && a.slots == b.slots && a.stamp == b.stamp
+
+-- the note on a state disk, where it tells its blocks and holds these slots
+abbrev pub stored_on : List Slot → Seen → Option (List ℕ)
+stored_on slots d = if length d.image == d.size && pointwise same_slot (kept_on d).slots slots then Some (kept_on d).note else None
+
+-- The volumes as their disks hold them. Where a chunk of a master stands on a shadow alone, its disk holds something else
+-- than the master's image; none of the calls so far puts a chunk there.
+abbrev pub below_of : IiDisks → BelowSeen
+below_of g = record {
+  images = map (λ d. d.image) g.volumes;
+  sizes = map (λ d. d.size) g.volumes;
+  note = g.block.note;
+  stored = stored_on g.block.slots g.state;
+  faults = faults_of g;
+  armed = armed_of g;
+  steady = are_steady g;
+}
+
+-- the rest: the slots in memory, and the disks of the volumes and of the sets but for what reading changes of them and arming
+pub record IiRest : Type 0 where
+  pub slots : List Slot
+  pub volumes : List Seen
+  pub sets : List HeldSet
+
+abbrev pub quiet : Seen → Seen
+quiet d = record d { faults = 0; armed = false }
+
+abbrev pub quiet_chunks : ChunkSet → ChunkSet
+quiet_chunks s = record s { shadow = option_map quiet s.shadow; areas = record s.areas { disk = quiet s.areas.disk } }
+
+abbrev pub quiet_set : HeldSet → HeldSet
+quiet_set s = record s { chunks = quiet_chunks s.chunks }
+
+abbrev pub rest_of : IiDisks → IiRest
+rest_of g = record { slots = g.block.slots; volumes = map quiet g.volumes; sets = map quiet_set g.sets }
+
+-- the group's state by the rest, but for the note
+abbrev pub group_of : IiRest → GroupState
+group_of rest = group_by rest.slots [] rest.volumes rest.sets
+
+-- the disks of the rest tell their blocks and are in step with the memory
+abbrev pub IsSoundRest : IiRest → Type 0
+IsSoundRest rest = AreSound rest.slots rest.volumes rest.sets
+
+-- the blocks written on each volume
+abbrev pub written_on : IiRest → List ℕ
+written_on rest = map (λ d. d.written) rest.volumes
+
+-- the blocks written on each volume after so many more on one
+abbrev pub written_after : IiRest → ℕ → ℕ → List ℕ
+written_after rest volume count = slice_set (written_on rest) volume (counted (slice_index (written_on rest) volume) count)
+
+-- the stages of a write to a volume
+abbrev pub write_stages : IiRest → ℕ → ℕ → List ℕ → List GroupStage
+write_stages rest volume at bytes = volume_write_stages (group_of rest).sets volume at (blocks_of bytes)
+
+-- what one write makes of the rest: its stages, or where it failed some of them and perhaps the next in part
+pub record WroteRest (old : IiRest) (volume at : ℕ) (bytes : List ℕ) (ok : Bool) (new : IiRest) : Type 0 where
+  pub slots : new.slots ≡ old.slots
+  pub pending : pending_in new.slots new.sets ≡ pending_in old.slots old.sets
+  pub done : IsSoundRest old → ok ≡ true → group_of new ≡ after_stages (group_of old) (write_stages old volume at bytes)
+  pub stopped : IsSoundRest old → ok ≡ false → StoppedIn (group_of old) (write_stages old volume at bytes) (group_of new)
+  pub sound : IsSoundRest old → ok ≡ true → IsSoundRest new
+  pub counts : ok ≡ true → written_on new ≡ written_after old volume (length bytes / 512)

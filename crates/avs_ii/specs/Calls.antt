@@ -1,0 +1,194 @@
+-- What each call on a group makes of it.
+use Rattle.std.specs.Prelude.{◌≡◌, ◌⊎◌, ℕ, ◌+◌, ◌*◌, ◌/◌, ◌^◌, ◌%◌, ◌<◌, ◌≤◌, ◌==◌, Bool, true, false, not, IsTrue, if◌then◌else◌, List, [], ◌∷◌, ◌++◌, length, map, filter, Option, None, Some, Result, Ok, Err, OnOk, OnErr, IfErr, slice_set, slice_get, slice_index_or}
+use Rattle.std.specs.List.{list_any, list_all}
+use Rattle.std.specs.Option.{option_map, option_map_or}
+use Rattle.avs_seg.specs.Image.{blocks_of, range}
+use Rattle.avs_dev.specs.Devices.{NoneFell, OneRose, UsesOneTear}
+use Rattle.avs_dev.specs.Seen.{Seen, IsTold, Writes}
+use Rattle.avs_dev.specs.declared.back.Why.{Why}
+use Rattle.avs_dev.specs.declared.back.Why.TheVariants as why
+use Rattle.avs_code.specs.GroupBlock.{group_block}
+use Rattle.avs_code.specs.declared.slot_table.Slot.{Slot}
+use Rattle.avs_code.specs.declared.group_blocks.GroupBlock.{GroupBlock}
+use Rattle.avs_model.specs.Shadows.{slot_count, image_at, after_enabling, after_stages, StoppedIn, shadow_write_stages}
+use Rattle.avs_model.specs.declared.answer.Refusal.{Refusal}
+use Rattle.avs_model.specs.declared.answer.Refusal.TheVariants.{NoSet, Size, Limit, NoMemory, Fault}
+use Rattle.avs_model.specs.declared.shadow.Kind.{Kind}
+use Rattle.avs_model.specs.declared.shadow.Kind.TheVariants.{Ind, Dep, Compact}
+use Rattle.avs_chunk.specs.ChunkSet.{ChunkSet}
+use Rattle.avs_chunk.specs.Making.{Makes, IsSmall, Fits, FailsFormat}
+use Rattle.avs_ii.specs.Held.{HeldSet, IiDisks, is_live, has_flag, live, set_at, pending_at, volume_at, disks_of}
+use Rattle.avs_ii.specs.Meaning.{meaning}
+use Rattle.avs_ii.specs.Sound.{IsSound, IsFresh}
+use Rattle.avs_ii.specs.Making.{kind_number}
+
+-- the counts of faults of all disks, whether a tear is armed on each, and whether all are steady
+abbrev pub faults_of : IiDisks → List ℕ
+faults_of g = map (λ d. d.faults) (disks_of g)
+
+abbrev pub armed_of : IiDisks → List Bool
+armed_of g = map (λ d. d.armed) (disks_of g)
+
+abbrev pub are_steady : IiDisks → Bool
+are_steady g = list_all (λ d. d.steady) (disks_of g)
+
+-- a volume is added behind the others
+pub record Adds (old : IiDisks) (disk : Seen) (new : IiDisks) : Type 0 where
+  pub is : new ≡ record old { volumes = old.volumes ++ disk ∷ [] }
+  pub group : meaning new ≡ record (meaning old) { volumes = (meaning old).volumes ++ disk.image ∷ [] }
+  pub sound : IsSound old → IsTold disk → IsSound new
+
+-- the blocks of a volume
+abbrev pub blocks_at : IiDisks → ℕ → ℕ
+blocks_at g volume = (volume_at g volume).size
+
+-- a slot that no set has
+pub record IsFree (g : IiDisks) (slot : ℕ) : Type 0 where
+  pub there : slot < slot_count
+  pub not_live : is_live g.block.slots slot ≡ false
+  pub not_held : list_any (λ s. s.slot == slot) g.sets ≡ false
+
+-- the limit that a set more is outside of: no compact set may be enabled for now, and one set may be in a group; there is a slot
+abbrev pub count_limit : IiDisks → Option ℕ
+count_limit g =
+    if not (length g.sets == 0) then Some 1
+    else if list_all (has_flag live) g.block.slots then Some slot_count
+    else None
+
+abbrev pub limit_at : IiDisks → Kind → Option ℕ
+limit_at g Ind = count_limit g
+limit_at g Dep = count_limit g
+limit_at g Compact = Some 0
+
+-- the refusal is the limit that such a set is outside of
+abbrev pub IsLimit : IiDisks → Kind → Refusal → Type 0
+IsLimit g k (Limit limit) = limit_at g k ≡ Some limit
+IsLimit g k other = ⊥
+
+-- A set waits behind the others to be enabled: its bitmap has the label and two areas, in which each chunk stands on the
+-- master alone. Nothing of the shadow's disk is written, and the group's state stays.
+pub record Enables (old : IiDisks) (kind : Kind) (master : ℕ) (shadow bitmap : Seen) (slot : ℕ) (new : IiDisks) : Type 0 where
+  pub chunks : ChunkSet
+  pub makes : Makes kind shadow bitmap (blocks_at old master) chunks
+  pub is : new ≡ record old { sets = old.sets ++ record { slot = slot; master = master; chunks = chunks } ∷ [] }
+  pub within : limit_at old kind ≡ None
+  pub free : IsFree old slot
+  pub pending : pending_at new slot ≡ Some (record { slot = slot; master = master; chunks = chunks })
+  pub fresh : IsTold shadow → IsTold bitmap → IsFresh (record { slot = slot; master = master; chunks = chunks })
+  pub group : IsSound old → meaning new ≡ meaning old
+  pub sound : IsSound old → IsSound new
+
+-- why no set waits, and what its disks are then
+abbrev pub EnableRefused : IiDisks → Kind → ℕ → Seen → Seen → Refusal → Seen → Seen → Type 0
+EnableRefused g k master shadow bitmap (Size need have) shadow_new bitmap_new =
+    IsSmall (Some shadow) bitmap (blocks_at g master) need have × ((shadow_new ≡ shadow) × (bitmap_new ≡ bitmap))
+EnableRefused g k master shadow bitmap (Limit limit) shadow_new bitmap_new =
+    Fits (Some shadow) bitmap (blocks_at g master) × ((limit_at g k ≡ Some limit) × ((shadow_new ≡ shadow) × (bitmap_new ≡ bitmap)))
+EnableRefused g k master shadow bitmap NoMemory shadow_new bitmap_new = (shadow_new ≡ shadow) × (bitmap_new ≡ bitmap)
+EnableRefused g k master shadow bitmap Fault shadow_new bitmap_new =
+    Fits (Some shadow) bitmap (blocks_at g master) × ((limit_at g k ≡ None) × ((shadow_new ≡ shadow) × FailsFormat bitmap (blocks_at g master) bitmap_new))
+EnableRefused g k master shadow bitmap why shadow_new bitmap_new = ⊥
+
+-- the refusal is that one of these disks is too small for a set of so many blocks
+abbrev pub IsSizeOf : Seen → Seen → ℕ → Refusal → Type 0
+IsSizeOf shadow bitmap blocks (Size need have) = IsSmall (Some shadow) bitmap blocks need have
+IsSizeOf shadow bitmap blocks other = ⊥
+
+-- why disks were refused, as a refusal of a group
+abbrev pub refusal_of : Why → Refusal
+refusal_of (why.Size need have) = Size need have
+refusal_of (why.BadRecord field) = Fault
+refusal_of why.NoMemory = NoMemory
+refusal_of why.Fault = Fault
+
+-- what a disk answered, as the answer of a group
+abbrev pub faulted : {T E : Type 0} → Result T E → Result T Refusal
+faulted (Ok x) = Ok x
+faulted (Err f) = Err Fault
+
+-- the slot of a set from when it is enabled on
+abbrev pub live_slot : Kind → Slot
+live_slot kind = record { flags = live; kind = kind_number kind; need = 0; slots = 0; stamp = 0 }
+
+-- the next block: its sequence is one more, and 0 behind the greatest number
+abbrev pub next_block : GroupBlock → GroupBlock
+next_block block = record block { sequence = (block.sequence + 1) % (2 ^ 64) }
+
+-- the block by which a pending set is enabled
+abbrev pub block_with : GroupBlock → HeldSet → GroupBlock
+block_with block s = record (next_block block) { slots = slice_set block.slots s.slot (live_slot s.chunks.kind) }
+
+-- the two answers of a call that names a set, other than Ok: no such set is there, exactly where that is so, or a disk failed
+pub record NamesSet {T : Type 0} (found : Option HeldSet) (result : Result T Refusal) : Type 0 where
+  pub absent : found ≡ None → result ≡ Err NoSet
+  pub no_set : result ≡ Err NoSet → found ≡ None
+  pub others : IfErr result (λ why. (why ≡ NoSet) ⊎ (why ≡ Fault))
+
+-- a set is enabled by one write of the block, which is the commit
+pub record Confirms {T : Type 0} (old : IiDisks) (slot : ℕ) (result : Result T Refusal) (new : IiDisks) : Type 0 where
+  pub names : NamesSet (pending_at old slot) result
+  pub no_set : result ≡ Err NoSet → new ≡ old
+  pub rest : new ≡ record old { state = new.state; block = new.block }
+  pub writes : (s : HeldSet) → pending_at old slot ≡ Some s → Writes old.state 1 (group_block (block_with old.block s)) result new.state
+  pub block : (s : HeldSet) → pending_at old slot ≡ Some s → OnOk result (new.block ≡ block_with old.block s)
+  pub kept : OnErr result (new.block ≡ old.block)
+  pub done : (s : HeldSet) → pending_at old slot ≡ Some s → IsSound old → IsFresh s → OnOk result (meaning new ≡ after_enabling (meaning old) slot s.chunks.kind s.master)
+  pub sound : (s : HeldSet) → pending_at old slot ≡ Some s → IsSound old → IsFresh s → OnOk result (IsSound new)
+  pub stopped : (s : HeldSet) → pending_at old slot ≡ Some s → IsSound old → IsFresh s
+      → OnErr result ((meaning new ≡ meaning old) ⊎ (meaning new ≡ after_enabling (meaning old) slot s.chunks.kind s.master))
+
+-- the pending set of least slot is given up with its disks, and the group's state stays
+pub record GivesUp (old : IiDisks) (s : HeldSet) (shadow bitmap : Seen) (new : IiDisks) : Type 0 where
+  pub pending : pending_at old s.slot ≡ Some s
+  pub least : (slot : ℕ) → slot < s.slot → pending_at old slot ≡ None
+  pub shadow_back : s.chunks.shadow ≡ Some shadow
+  pub bitmap_back : bitmap ≡ s.chunks.areas.disk
+  pub is : new ≡ record old { sets = filter (λ other. not (other.slot == s.slot)) old.sets }
+  pub group : IsSound old → meaning new ≡ meaning old
+  pub sound : IsSound old → IsSound new
+
+-- so many bytes are whole blocks, one or more, and lie inside the shadow of a set, where it is there, from its block `at` on
+pub record IsShadowRange (g : IiDisks) (slot at len : ℕ) : Type 0 where
+  pub some : 0 < len
+  pub whole : 512 * (len / 512) ≡ len
+  pub inside : (s : HeldSet) → set_at g slot ≡ Some s → at + len / 512 ≤ s.chunks.blocks
+
+-- blocks of a shadow are read, and nothing changes but the counts of faults
+pub record ReadsSet {T : Type 0} (old : IiDisks) (slot : ℕ) (out : List ℕ) (at : ℕ) (result : Result T Refusal) (new : IiDisks) : Type 0 where
+  pub names : NamesSet (set_at old slot) result
+  pub no_set : result ≡ Err NoSet → new ≡ old
+  pub state : new.state ≡ old.state
+  pub block : new.block ≡ old.block
+  pub armed : armed_of new ≡ armed_of old
+  pub later : NoneFell (faults_of old) (faults_of new)
+  pub fault : result ≡ Err Fault → OneRose (faults_of old) (faults_of new)
+  pub steady : IsTrue (are_steady old) → (result ≡ Err Fault → ⊥)
+  pub group : meaning new ≡ meaning old
+  pub sound : IsSound old → IsSound new
+  pub shows : IsSound old → OnOk result (blocks_of out ≡ range (image_at (meaning old).sets slot) at (length out / 512))
+
+-- blocks of a shadow are written, by the stages of such a write; a fault stops them
+pub record WritesSet {T : Type 0} (old : IiDisks) (slot at : ℕ) (bytes : List ℕ) (result : Result T Refusal) (new : IiDisks) : Type 0 where
+  pub names : NamesSet (set_at old slot) result
+  pub no_set : result ≡ Err NoSet → new ≡ old
+  pub state : new.state ≡ old.state
+  pub block : new.block ≡ old.block
+  pub later : NoneFell (faults_of old) (faults_of new)
+  pub fault : result ≡ Err Fault → OneRose (faults_of old) (faults_of new)
+  pub still_armed : OnOk result (armed_of new ≡ armed_of old)
+  pub spent : IsTrue (are_steady old) → result ≡ Err Fault → UsesOneTear (armed_of old) (armed_of new)
+  pub done : IsSound old → OnOk result (meaning new ≡ after_stages (meaning old) (shadow_write_stages slot at (blocks_of bytes)))
+  pub stopped : IsSound old → result ≡ Err Fault → StoppedIn (meaning old) (shadow_write_stages slot at (blocks_of bytes)) (meaning new)
+  pub sound : IsSound old → OnOk result (IsSound new)
+
+-- a tear is armed on one of the disks; where none is, nothing changes
+pub record ArmsGroup (old : IiDisks) (disk : ℕ) (result : Bool) (new : IiDisks) : Type 0 where
+  pub answer : result ≡ option_map_or (λ d. d.arms) (slice_get (disks_of old) disk) false
+  pub armed : IsTrue result → disks_of new ≡ slice_set (disks_of old) disk (record (slice_index_or (disks_of old) disk old.state) { armed = true })
+  pub unarmed : IsTrue (not result) → new ≡ old
+  pub block : new.block ≡ old.block
+  pub group : meaning new ≡ meaning old
+
+-- the blocks written on one of the disks
+abbrev pub written_of : IiDisks → ℕ → Option ℕ
+written_of g disk = option_map (λ d. d.written) (slice_get (disks_of g) disk)

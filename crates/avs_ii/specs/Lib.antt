@@ -1,0 +1,12 @@
+pub mod Held
+pub mod Meaning
+pub mod Sound
+pub mod SetDisks
+pub mod Parts
+pub mod Opened
+pub mod Saved
+pub mod Kept
+pub mod Making
+pub mod Opening
+pub mod Calls
+pub mod AsBelow
