@@ -288,9 +288,11 @@ fn each_torn_write_under_a_write_to_a_master(rt: HostRuntime) -> Result<(), Fail
 fn each_torn_write_under_a_write_to_a_shadow(rt: HostRuntime) -> Result<(), Fail> {
     let alloc = rt.alloc();
     for (disk, skip, count, want) in [
+        (SHADOW, 0, 0, (63, 64)),
         (SHADOW, 0, 64, (63, 64)),
         (BITMAP, 0, 0, (63, 64)),
         (BITMAP, 0, 1, (63, 64)),
+        (SHADOW, 1, 0, (63, 64)),
         (SHADOW, 1, 64, (63, 64)),
         (BITMAP, 1, 0, (63, 64)),
         (BITMAP, 1, 1, (63, 64)),
