@@ -8,13 +8,15 @@ use Rattle.std.specs.Str.{bytes_eq}
 use lib.Chars.{codes}
 use Rattle.avs_model.specs.Names.{host_named, is_volume_name, volume_named, IsVolumeName, is_group_name, disk_named}
 use Rattle.avs_model.specs.Words.{number, pattern}
-use Rattle.avs_model.specs.Script.{at_volume, volume_event, write_event, read_event, host_alone, arm_event, fault_event, words_event, built}
-use Rattle.avs_model.specs.Fits.{IsDiskName, IsNamed, Fits}
+use Rattle.avs_model.specs.Script.{at_volume, volume_event, write_event, read_event, dependent_named, enable_command, ii_command, ii_event, host_alone, arm_event, fault_event, words_event, built}
+use Rattle.avs_model.specs.Fits.{IsDiskName, IsNamedCommand, IsNamed, Fits}
 use Rattle.avs_model.specs.declared.event.Host.{Host}
 use Rattle.avs_model.specs.declared.event.ArmTarget.{ArmTarget}
 use Rattle.avs_model.specs.declared.event.ArmTarget.TheVariants as disk
 use Rattle.avs_model.specs.declared.event.Event.{Event}
-use Rattle.avs_model.specs.declared.event.Event.TheVariants.{Volume, Write, Read, Arm, Crash, Recover}
+use Rattle.avs_model.specs.declared.event.Event.TheVariants.{Volume, Write, Read, Ii, Arm, Crash, Recover}
+use Rattle.avs_model.specs.declared.event.IiCommand.{IiCommand}
+use Rattle.avs_model.specs.declared.event.IiCommand.TheVariants.{Enable}
 
 -- some value is handed on
 abbrev Passes : {A B : Type 0} → (A → Option B) → Option A → B → Type 0
@@ -27,6 +29,15 @@ passes f (Some x) y is = (x, refl, is)
 mapped : {A B : Type 0} (f : A → B) (o : Option A) (y : B) → option_map f o ≡ Some y → (x : A) × (f x ≡ y)
 mapped f None y is = absurd (cc)
 mapped f (Some x) y is = (x, cc)
+
+mapped_some : {A B : Type 0} (f : A → B) (o : Option A) (y : B) → option_map f o ≡ Some y → (x : A) × (o ≡ Some x) × (f x ≡ y)
+mapped_some f None y is = absurd (cc)
+mapped_some f (Some x) y is = (x, refl, cc)
+
+-- one, or else another
+either : {A : Type 0} (a : Bool) (x other : Option A) (y : A) (Kept : Type 0) → (x ≡ Some y → Kept) → (other ≡ Some y → Kept) → cond a x other ≡ Some y → Kept
+either true x other y Kept in_x in_other is = in_x is
+either false x other y Kept in_x in_other is = in_other is
 
 is_volume_name-parts : (name : List ℕ) → is_volume_name name ≡ true → IsVolumeName name
 is_volume_name-parts name is =
@@ -101,9 +112,40 @@ read_event-named (host ∷ volume ∷ at ∷ len ∷ []) event is =
     subst (λ e. IsNamed e) made.1 volumes.named
 read_event-named (a ∷ b ∷ c ∷ d ∷ e ∷ words) event is = absurd (cc)
 
-mapped_some : {A B : Type 0} (f : A → B) (o : Option A) (y : B) → option_map f o ≡ Some y → (x : A) × (o ≡ Some x) × (f x ≡ y)
-mapped_some f None y is = absurd (cc)
-mapped_some f (Some x) y is = (x, refl, cc)
+named-volume : (word name : List ℕ) → volume_named word ≡ Some name → IsVolumeName name
+named-volume word name is =
+    let spelled = volume_named-some word name is in
+    subst (λ n. IsVolumeName n) spelled.1 (is_volume_name-parts word spelled.0)
+
+enable_command-named : (words : List (List ℕ)) (command : IiCommand) → enable_command words ≡ Some command → IsNamedCommand command
+enable_command-named [] command is = absurd (cc)
+enable_command-named (a ∷ []) command is = absurd (cc)
+enable_command-named (a ∷ b ∷ []) command is = absurd (cc)
+enable_command-named (a ∷ b ∷ c ∷ []) command is = absurd (cc)
+enable_command-named (kind ∷ master ∷ shadow ∷ bitmap ∷ []) command is =
+    let kinds = passes _ (dependent_named kind) command is in
+    let masters = passes _ (volume_named master) command kinds.2 in
+    let shadows = passes _ (volume_named shadow) command masters.2 in
+    let made = mapped_some (λ b. Enable kinds.0 masters.0 shadows.0 b) (volume_named bitmap) command shadows.2 in
+    subst (λ c. IsNamedCommand c) made.2
+    (record {
+      first = named-volume master masters.0 masters.1;
+      second = named-volume shadow shadows.0 shadows.1;
+      third = named-volume bitmap made.0 made.1;
+    })
+enable_command-named (a ∷ b ∷ c ∷ d ∷ e ∷ words) command is = absurd (cc)
+
+ii_command-named : (words : List (List ℕ)) (command : IiCommand) → ii_command words ≡ Some command → IsNamedCommand command
+ii_command-named [] command is = absurd (cc)
+ii_command-named (letter ∷ words) command is =
+    either (bytes_eq letter (codes "-e")) (enable_command words) None command _ (enable_command-named words command) (λ none. absurd (cc)) is
+
+pub ii_event-named : (words : List (List ℕ)) (event : Event) → ii_event words ≡ Some event → IsNamed event
+ii_event-named [] event is = absurd (cc)
+ii_event-named (host ∷ words) event is =
+    let hosts = passes _ (host_named host) event is in
+    let made = mapped_some (λ c. Ii hosts.0 c) (ii_command words) event hosts.2 in
+    subst (λ e. IsNamed e) made.2 (ii_command-named words made.0 made.1)
 
 -- the disk of a group's state that a word names
 abbrev disk_of_state : List ℕ → Option ArmTarget
@@ -167,8 +209,10 @@ fault_event-named word words event is =
 
 pub words_event-named : (word : List ℕ) (words : List (List ℕ)) (event : Event) → words_event word words ≡ Some event → IsNamed event
 words_event-named word words event is =
-    chosen (bytes_eq word (codes "volume")) (bytes_eq word (codes "write")) (bytes_eq word (codes "read")) (volume_event words) (write_event words) (read_event words) (fault_event word words) event _
-    (volume_event-named words event) (write_event-named words event) (read_event-named words event) (fault_event-named word words event) is
+    chosen (bytes_eq word (codes "volume")) (bytes_eq word (codes "write")) (bytes_eq word (codes "read")) (volume_event words) (write_event words) (read_event words)
+    (cond (bytes_eq word (codes "iiadm")) (ii_event words) (fault_event word words)) event _
+    (volume_event-named words event) (write_event-named words event) (read_event-named words event)
+    (either (bytes_eq word (codes "iiadm")) (ii_event words) (fault_event word words) event _ (ii_event-named words event) (fault_event-named word words event)) is
 
 -- an event that is there, with names
 pub built-fits : (event : Event) → built event ≡ true → IsNamed event → Fits event

@@ -5,11 +5,11 @@ pub mod Words
 pub mod Script
 pub mod Fits
 pub mod Printed
+pub mod Shadows
 pub mod State
 pub mod Refusals
 pub mod Stages
 pub mod Recovery
-pub mod Shadows
 pub mod Right
 pub mod Next
 pub mod Good

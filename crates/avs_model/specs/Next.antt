@@ -24,7 +24,7 @@ brought_down state host event =
 -- a tear was met, and is armed no more; over disks that are not steady a fault may come without one
 abbrev pub TearUsed : Bool → State → Event → Host → State → Type 0
 TearUsed steady old event host new =
-    ((met : MeetsTear old event host) × (new ≡ with_armed old host met.volume false)) ⊎ ((steady ≡ false) × (new ≡ old))
+    ((met : MeetsTear old event host) × (new ≡ with_armed old host met.disk false)) ⊎ ((steady ≡ false) × (new ≡ old))
 
 -- a fault brings the host down: what the event did is told when the host is brought up again
 pub record Stops (steady : Bool) (old : State) (event : Event) (host : Host) (new : State) : Type 0 where

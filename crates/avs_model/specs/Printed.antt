@@ -11,7 +11,9 @@ use Rattle.avs_model.specs.declared.event.Host.TheVariants.{P, S}
 use Rattle.avs_model.specs.declared.answer.Refusal.{Refusal}
 use Rattle.avs_model.specs.declared.answer.Word.{Word}
 use Rattle.avs_model.specs.declared.answer.Word.TheVariants as word
-use Rattle.avs_model.specs.declared.answer.Refusal.TheVariants.{Down, NoVolume, NoSet, NoGroup, Exists, Length, Range, Size, Limit, WrongState, NoMemory, Fault}
+use Rattle.avs_model.specs.declared.answer.Role.{Role}
+use Rattle.avs_model.specs.declared.answer.Role.TheVariants as role
+use Rattle.avs_model.specs.declared.answer.Refusal.TheVariants.{Down, NoVolume, NoSet, NoGroup, Exists, BusyVolume, Length, Range, Size, Limit, WrongState, NoContents, BadRecord, NoMemory, Fault}
 use Rattle.avs_model.specs.declared.recovered.Second.{Second}
 use Rattle.avs_model.specs.declared.recovered.Second.TheVariants as second
 use Rattle.avs_model.specs.declared.recovered.GroupLine.{GroupLine}
@@ -60,17 +62,26 @@ abbrev pub word_text : Word → List ℕ
 word_text word.Up = codes "up"
 word_text word.Unarmed = codes "unarmed"
 
+abbrev pub role_text : Role → List ℕ
+role_text role.Master = codes "master"
+role_text role.Shadow = codes "shadow"
+role_text role.Bitmap = codes "bitmap"
+role_text role.Plain = codes "plain"
+
 abbrev pub refusal_text : Refusal → List ℕ
 refusal_text (Down host) = codes "Down " ++ host_text host
 refusal_text NoVolume = codes "NoVolume"
 refusal_text NoSet = codes "NoSet"
 refusal_text NoGroup = codes "NoGroup"
 refusal_text Exists = codes "Exists"
+refusal_text (BusyVolume role) = codes "BusyVolume " ++ role_text role
 refusal_text (Length len) = codes "Length " ++ decimal len
 refusal_text (Range blocks) = codes "Range " ++ decimal blocks
 refusal_text (Size need have) = codes "Size " ++ decimal need ++ 32 ∷ decimal have
 refusal_text (Limit limit) = codes "Limit " ++ decimal limit
 refusal_text (WrongState word) = codes "WrongState " ++ word_text word
+refusal_text NoContents = codes "NoContents"
+refusal_text (BadRecord field) = codes "BadRecord " ++ decimal field
 refusal_text NoMemory = codes "NoMemory"
 refusal_text Fault = codes "Fault"
 

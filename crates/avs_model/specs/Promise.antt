@@ -9,7 +9,7 @@ use Rattle.avs_model.specs.State.{State, start}
 use Rattle.avs_model.specs.Refusals.{refusal}
 use Rattle.avs_model.specs.Good.{Good, RunTo}
 use Rattle.avs_model.specs.declared.event.Event.{Event}
-use Rattle.avs_model.specs.declared.event.Event.TheVariants.{Volume}
+use Rattle.avs_model.specs.declared.event.Event.TheVariants.{Volume, Ii}
 use Rattle.avs_model.specs.declared.answer.Answer.{Answer}
 
 -- the bytes are good answers to these events, whole
@@ -59,6 +59,7 @@ pub record IsCutBySink (steady : Bool) (given : Script) (bytes : List ℕ) : Typ
 -- the event asks the rack for a disk, where nothing refuses it
 abbrev pub AsksForDisk : State → Event → Type 0
 AsksForDisk state (Volume host name blocks) = refusal state (Volume host name blocks) ≡ None
+AsksForDisk state (Ii host command) = refusal state (Ii host command) ≡ None
 AsksForDisk state event = ⊥
 
 -- the rack failed: the events before the one that asked it for a disk are answered

@@ -8,8 +8,10 @@ use Rattle.avs_model.specs.Names.{host_named, volume_named, disk_named}
 use Rattle.avs_model.specs.Words.{words_of, number, pattern}
 use Rattle.avs_model.specs.declared.event.Host.{Host}
 use Rattle.avs_model.specs.declared.event.Host.TheVariants.{P, S}
+use Rattle.avs_model.specs.declared.event.IiCommand.{IiCommand}
+use Rattle.avs_model.specs.declared.event.IiCommand.TheVariants.{Enable}
 use Rattle.avs_model.specs.declared.event.Event.{Event}
-use Rattle.avs_model.specs.declared.event.Event.TheVariants.{Volume, Write, Read, Arm, Crash, Recover}
+use Rattle.avs_model.specs.declared.event.Event.TheVariants.{Volume, Write, Read, Ii, Arm, Crash, Recover}
 use Rattle.avs_model.specs.declared.event.Statement.{Statement}
 use Rattle.avs_model.specs.declared.event.Statement.TheVariants.{Nothing, Run}
 
@@ -40,6 +42,26 @@ arm_event (host ∷ disk ∷ skip ∷ first ∷ count ∷ []) =
     option_and_then (λ h. option_and_then (λ s. option_and_then (λ f. option_and_then (λ c. option_map (λ d. Arm h d s f c) (disk_named disk)) (number count)) (number first)) (number skip)) (host_named host)
 arm_event words = None
 
+-- whether a kind is the dependent one
+abbrev pub dependent_named : List ℕ → Option Bool
+dependent_named word = if bytes_eq word (codes "dep") then Some true else (if bytes_eq word (codes "ind") then Some false else None)
+
+-- `KIND MASTER SHADOW BITMAP` behind `-e`
+abbrev pub enable_command : List (List ℕ) → Option IiCommand
+enable_command (kind ∷ master ∷ shadow ∷ bitmap ∷ []) =
+    option_and_then (λ d. option_and_then (λ m. option_and_then (λ s. option_map (λ b. Enable d m s b) (volume_named bitmap)) (volume_named shadow)) (volume_named master)) (dependent_named kind)
+enable_command words = None
+
+-- a command of shadow sets
+abbrev pub ii_command : List (List ℕ) → Option IiCommand
+ii_command [] = None
+ii_command (letter ∷ words) = if bytes_eq letter (codes "-e") then enable_command words else None
+
+-- `iiadm H REST`
+abbrev pub ii_event : List (List ℕ) → Option Event
+ii_event [] = None
+ii_event (host ∷ words) = option_and_then (λ h. option_map (λ c. Ii h c) (ii_command words)) (host_named host)
+
 -- H, and no more words
 abbrev pub host_alone : List (List ℕ) → Option Host
 host_alone (host ∷ []) = host_named host
@@ -55,7 +77,8 @@ fault_event word words =
 abbrev pub words_event : List ℕ → List (List ℕ) → Option Event
 words_event word words =
     if bytes_eq word (codes "volume") then volume_event words
-    else (if bytes_eq word (codes "write") then write_event words else (if bytes_eq word (codes "read") then read_event words else fault_event word words))
+    else (if bytes_eq word (codes "write") then write_event words
+    else (if bytes_eq word (codes "read") then read_event words else (if bytes_eq word (codes "iiadm") then ii_event words else fault_event word words)))
 
 -- the event that the words of a line are, in any form
 abbrev pub event_of : List (List ℕ) → Option Event
@@ -66,11 +89,16 @@ abbrev pub is_p : Host → Bool
 is_p P = true
 is_p S = false
 
+-- the commands that there are so far
+abbrev pub built_command : IiCommand → Bool
+built_command (Enable dependent master shadow bitmap) = dependent
+
 -- the forms that there are so far
 abbrev pub built : Event → Bool
 built (Volume host volume blocks) = is_p host
 built (Write host volume at len bytes) = is_p host && length bytes == 1
 built (Read host volume at len) = is_p host
+built (Ii host command) = is_p host && built_command command
 built (Arm host disk skip first count) = is_p host
 built (Crash host) = is_p host
 built (Recover host) = is_p host

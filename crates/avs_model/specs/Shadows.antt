@@ -1,6 +1,6 @@
 -- Shadow sets: the image of a volume at one point in time, and which chunks were written since. A chunk is a segment of a
 -- shadow, and here is what enabling a set and writing to its volumes make of images and of the lists of chunks.
-use Rattle.std.specs.Prelude.{◌≡◌, ◌⊎◌, ℕ, Bool, true, false, not, ◌&&◌, ◌||◌, ◌==◌, nat_lt, if◌then◌else◌, List, [], ◌∷◌, ◌++◌, length, map, filter, slice_set, slice_index_or, find}
+use Rattle.std.specs.Prelude.{◌≡◌, ◌⊎◌, ℕ, Bool, false, not, ◌&&◌, ◌||◌, ◌==◌, nat_lt, if◌then◌else◌, List, [], ◌∷◌, ◌++◌, length, map, filter, replicate, slice_set, slice_index_or, find}
 use Rattle.std.specs.Option.{option_map_or}
 use Rattle.std.specs.List.{list_any, flat_map, range_with_len}
 use Rattle.avs_seg.specs.Image.{Image, put, IsMix}
@@ -59,6 +59,10 @@ pub record GroupState : Type 0 where
   pub volumes : List Image
   pub sets : List ShadowState
   pub note : List ℕ
+
+-- a group of volumes without shadow sets, whose note is zeros
+abbrev pub bare_group : List Image → GroupState
+bare_group volumes = record { volumes = volumes; sets = []; note = replicate 64 0 }
 
 -- the image of a volume
 abbrev pub volume_image : GroupState → ℕ → Image
@@ -159,6 +163,16 @@ with_shadow group slot image = record group { sets = changed_at slot (λ set. re
 -- the image of the shadow of the set with that slot
 abbrev pub image_at : List ShadowState → ℕ → Image
 image_at sets slot = option_map_or (λ set. set.image) (find (λ set. set.slot == slot) sets) []
+
+-- how many blocks it has, and how many of its chunks are to be copied one way or the other
+abbrev pub blocks_at : List ShadowState → ℕ → ℕ
+blocks_at sets slot = option_map_or (λ set. set.blocks) (find (λ set. set.slot == slot) sets) 0
+
+abbrev pub to_copy : ShadowState → ℕ
+to_copy set = chunks_in set.blocks (λ chunk. set.left chunk || set.back chunk)
+
+abbrev pub to_copy_at : List ShadowState → ℕ → ℕ
+to_copy_at sets slot = option_map_or to_copy (find (λ set. set.slot == slot) sets) 0
 
 -- the group behind a stage
 abbrev pub after_stage : GroupState → GroupStage → GroupState

@@ -15,6 +15,16 @@ pub enum Word {
     Unarmed,
 }
 
+/// What a volume serves as.
+#[derive(Clone, Copy, Debug, PartialEq, Eq)]
+pub enum Role {
+    Master,
+    Shadow,
+    Bitmap,
+    /// It serves as none of these.
+    Plain,
+}
+
 /// Why an event is refused. The variants stand in the order in which they are answered.
 #[derive(Clone, Copy, Debug, PartialEq, Eq)]
 pub enum Refusal {
@@ -24,6 +34,8 @@ pub enum Refusal {
     NoSet,
     NoGroup,
     Exists,
+    /// What the volume serves as excludes this use.
+    BusyVolume(Role),
     /// A read or a write has this length, which is outside its limit.
     Length(u32),
     /// The range ends behind the volume's end; the volume has so many blocks.
@@ -34,6 +46,10 @@ pub enum Refusal {
     Limit(u64),
     /// A state excludes the event.
     WrongState(Word),
+    /// The volume has no contents.
+    NoContents,
+    /// A field on a disk breaks its rule.
+    BadRecord(u32),
     /// Memory was refused. No answer of a run holds it.
     NoMemory,
     /// A disk failed. A layer does not know its host; an answer says `Faulted` with the host.
@@ -81,6 +97,21 @@ impl fmt::Display for Word {
     }
 }
 
+impl fmt::Display for Role {
+    ghost use Rattle.avs_model.specs.Printed.{role_text};
+
+    ghost output = { λ role. Some (role_text role) };
+
+    fn fmt<W: fmt::Write>(&self, f: &mut fmt::Formatter<W>) -> fmt::Result {
+        match self {
+            Role::Master => f.write_str("master"),
+            Role::Shadow => f.write_str("shadow"),
+            Role::Bitmap => f.write_str("bitmap"),
+            Role::Plain => f.write_str("plain"),
+        }
+    }
+}
+
 impl fmt::Display for Refusal {
     ghost use Rattle.avs_model.specs.Printed.{refusal_text};
 
@@ -93,11 +124,14 @@ impl fmt::Display for Refusal {
             Refusal::NoSet => f.write_str("NoSet"),
             Refusal::NoGroup => f.write_str("NoGroup"),
             Refusal::Exists => f.write_str("Exists"),
+            Refusal::BusyVolume(role) => write!(f, "BusyVolume {role}"),
             Refusal::Length(len) => write!(f, "Length {len}"),
             Refusal::Range(blocks) => write!(f, "Range {blocks}"),
             Refusal::Size { need, have } => write!(f, "Size {need} {have}"),
             Refusal::Limit(limit) => write!(f, "Limit {limit}"),
             Refusal::WrongState(word) => write!(f, "WrongState {word}"),
+            Refusal::NoContents => f.write_str("NoContents"),
+            Refusal::BadRecord(field) => write!(f, "BadRecord {field}"),
             Refusal::NoMemory => f.write_str("NoMemory"),
             Refusal::Fault => f.write_str("Fault"),
         }

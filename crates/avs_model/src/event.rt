@@ -74,6 +74,18 @@ pub enum ArmTarget {
     StateOf(Name),
 }
 
+/// A command on shadow sets.
+#[derive(Debug, Drop)]
+pub enum IiCommand {
+    /// Makes a shadow of the master at this point in time, and keeps its bits on the bitmap volume.
+    Enable {
+        dependent: bool,
+        master: Name,
+        shadow: Name,
+        bitmap: Name,
+    },
+}
+
 /// What a statement asks for. Lengths and places are in blocks.
 #[derive(Debug, Drop)]
 pub enum Event {
@@ -94,6 +106,10 @@ pub enum Event {
         volume: Name,
         at: u32,
         len: u32,
+    },
+    Ii {
+        host: Host,
+        command: IiCommand,
     },
     /// After `skip` further writes of that disk the next one fails, and stores `count` of its blocks from its block `first` on.
     Arm {

@@ -10,10 +10,10 @@ mod recovered;
 mod shadow;
 mod tap;
 
-pub use answer::{Answer, Refusal, Word};
+pub use answer::{Answer, Refusal, Role, Word};
 pub use blocks::Blocks;
 pub use entry::{Entry, EntryKind, Full, Limits};
-pub use event::{ArmTarget, Event, Host, Name, Statement};
+pub use event::{ArmTarget, Event, Host, IiCommand, Name, Statement};
 pub use pattern::Pattern;
 pub use recovered::{GroupLine, GroupLines, Recovered, Second, SetLine, SetLines};
 pub use shadow::Kind;

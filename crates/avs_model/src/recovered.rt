@@ -1,8 +1,8 @@
 // What is told of a host that was brought up again.
-ghost use Rattle.std.specs.Prelude.{◌≡◌, [], Some};
+ghost use Rattle.std.specs.Prelude.{◌≡◌, ◌∷◌, ◌++◌, [], Some, OnOk, OnErr};
 
 use crate::event::{Host, Name};
-use avs_seg::SegList;
+use avs_seg::{NoMemory, SegList};
 use std::alloc::Global;
 use std::fmt;
 use std::marker::Model;
@@ -88,6 +88,15 @@ impl GroupLines {
         }
     }
 
+    /// Adds a group behind the others.
+    pub fn push(&mut self, line: GroupLine) -> Result<(), NoMemory>
+        ensures pushed { OnOk result (self.new ≡ self.old ++ line ∷ []) }
+        ensures kept { OnErr result (self.new ≡ self.old) }
+    {
+        self.lines.push(line)?;
+        Ok(())
+    }
+
     pub fn as_slice(&self) -> &[GroupLine]
         ensures { result.now ≡ self.now }
     {
@@ -118,6 +127,15 @@ impl SetLines {
         SetLines {
             lines: Vec::new(alloc),
         }
+    }
+
+    /// Adds a set behind the others.
+    pub fn push(&mut self, line: SetLine) -> Result<(), NoMemory>
+        ensures pushed { OnOk result (self.new ≡ self.old ++ line ∷ []) }
+        ensures kept { OnErr result (self.new ≡ self.old) }
+    {
+        self.lines.push(line)?;
+        Ok(())
     }
 
     pub fn as_slice(&self) -> &[SetLine]

@@ -2,13 +2,13 @@
 ghost use Rattle.std.specs.Prelude.{◌≡◌, ◌≤◌, ◌↔◌, Some, None, Err, IfOk, IsSome, length};
 ghost use Rattle.avs_seg.specs.Lines.{line_limit};
 ghost use Rattle.avs_model.specs.Words.{words_of};
-ghost use Rattle.avs_model.specs.Script.{volume_event, write_event, read_event, host_alone, arm_event, fault_event, words_event, event_of, statement};
+ghost use Rattle.avs_model.specs.Script.{volume_event, write_event, read_event, dependent_named, enable_command, ii_command, ii_event, host_alone, arm_event, fault_event, words_event, event_of, statement};
 ghost use Rattle.avs_model.specs.Names.{disk_named};
 ghost use Rattle.avs_model.specs.Fits.{StatementFits};
 
 use crate::built::is_built;
 use crate::error::LineError;
-use avs_model::{ArmTarget, Event, Host, Name, Statement};
+use avs_model::{ArmTarget, Event, Host, IiCommand, Name, Statement};
 use avs_text::{WordReader, host_named, is_group_name, is_volume_name, number, pattern};
 use std::alloc::Global;
 
@@ -108,6 +108,83 @@ fn read_read(alloc: Global, words: &mut WordReader<'_>) -> Result<Event, LineErr
     })
 }
 
+// Whether a kind of shadow set is the dependent one.
+fn is_dependent(word: &[u8]) -> Option<bool>
+    ensures { result ≡ dependent_named word.now }
+{
+    if word == b"dep".as_slice() {
+        return Some(true);
+    }
+    if word == b"ind".as_slice() {
+        return Some(false);
+    }
+    None
+}
+
+// `KIND MASTER SHADOW BITMAP` of `iiadm H -e`, behind the letter.
+fn read_enable(alloc: Global, words: &mut WordReader<'_>) -> Result<IiCommand, LineError>
+    ensures ok { IfOk result (λ command. enable_command words.old ≡ Some command) }
+    ensures bad { (result ≡ Err LineError.Bad) ↔ (enable_command words.old ≡ None) }
+{
+    let (Some(kind), Some(master), Some(shadow), Some(bitmap), None) = (
+        words.next(),
+        words.next(),
+        words.next(),
+        words.next(),
+        words.next(),
+    ) else {
+        return Err(LineError::Bad);
+    };
+    let (Some(dependent), true, true, true) = (
+        is_dependent(kind),
+        is_volume_name(master),
+        is_volume_name(shadow),
+        is_volume_name(bitmap),
+    ) else {
+        return Err(LineError::Bad);
+    };
+    let master = Name::new(alloc, master)?;
+    let shadow = Name::new(alloc, shadow)?;
+    let bitmap = Name::new(alloc, bitmap)?;
+    Ok(IiCommand::Enable {
+        dependent,
+        master,
+        shadow,
+        bitmap,
+    })
+}
+
+// A command on shadow sets, from its letter on.
+fn read_command(alloc: Global, words: &mut WordReader<'_>) -> Result<IiCommand, LineError>
+    ensures ok { IfOk result (λ command. ii_command words.old ≡ Some command) }
+    ensures bad { (result ≡ Err LineError.Bad) ↔ (ii_command words.old ≡ None) }
+{
+    let Some(letter) = words.next() else {
+        return Err(LineError::Bad);
+    };
+    if letter == b"-e".as_slice() {
+        return read_enable(alloc, words);
+    }
+    Err(LineError::Bad)
+}
+
+// `iiadm H REST`, behind its first word.
+fn read_ii(alloc: Global, words: &mut WordReader<'_>) -> Result<Event, LineError>
+    ensures ok { IfOk result (λ event. ii_event words.old ≡ Some event) }
+    ensures bad { (result ≡ Err LineError.Bad) ↔ (ii_event words.old ≡ None) }
+{
+    let Some(host) = words.next() else {
+        return Err(LineError::Bad);
+    };
+    let Some(host) = host_named(host) else {
+        return Err(LineError::Bad);
+    };
+    match read_command(alloc, words) {
+        Ok(command) => Ok(Event::Ii { host, command }),
+        Err(why) => Err(why),
+    }
+}
+
 // The disk that a word names: a volume's, or `state:` and a group's.
 fn read_disk(alloc: Global, word: &[u8]) -> Result<ArmTarget, LineError>
     ensures ok { IfOk result (λ disk. disk_named word.now ≡ Some disk) }
@@ -203,10 +280,13 @@ fn read_event(alloc: Global, word: &[u8], words: &mut WordReader<'_>) -> Result<
     if word == b"read".as_slice() {
         return read_read(alloc, words);
     }
+    if word == b"iiadm".as_slice() {
+        return read_ii(alloc, words);
+    }
     read_fault(alloc, word, words)
 }
 
-/// What a line says, which comes without its line feed. Takes memory for a name alone, behind the
+/// What a line says, which comes without its line feed. Takes memory for names alone, behind the
 /// last word that can be bad.
 pub fn read_line(alloc: Global, line: &[u8]) -> Result<Statement, LineError>
     ensures ok { IfOk result (λ said. statement line.now ≡ Some said) }

@@ -1,5 +1,5 @@
 use super::*;
-use avs_model::{ArmTarget, Event, Name, Statement};
+use avs_model::{ArmTarget, Event, IiCommand, Name, Statement};
 use std::alloc::Global;
 use std::test::Fail;
 
@@ -51,6 +51,26 @@ fn outcome(alloc: Global, line: &[u8]) -> Result<String, Fail> {
         ) => { format!(in alloc; "{host:?} {} at {at} len {len}", text_of(&volume))? }
         Ok(
             Statement::Run(
+                Event::Ii {
+                    host,
+                    command: IiCommand::Enable {
+                        dependent,
+                        master,
+                        shadow,
+                        bitmap,
+                    },
+                },
+            ),
+        ) => {
+            format!(in alloc;
+                "{host:?} enables {dependent} {} {} {}",
+                text_of(&master),
+                text_of(&shadow),
+                text_of(&bitmap)
+            )?
+        }
+        Ok(
+            Statement::Run(
                 Event::Arm {
                     host,
                     target,
@@ -90,6 +110,14 @@ fn statements_are_read(rt: HostRuntime) -> Result<(), Fail> {
             "P /v/a at 0 len 4294967295 of [255]",
         ),
         ("read p /v/a 0 4097", "P /v/a at 0 len 4097"),
+        (
+            "iiadm p -e dep /v/a /s/a /c/a",
+            "P enables true /v/a /s/a /c/a",
+        ),
+        (
+            "\tiiadm  p\r-e dep\t /v/a /v/a /v/a ",
+            "P enables true /v/a /v/a /v/a",
+        ),
         ("arm p /v/a 0 1 2", "P volume /v/a skip 0 from 1 count 2"),
         (
             "arm p state:g 4294967295 0 4294967295",
@@ -165,6 +193,29 @@ fn other_lines_are_bad(rt: HostRuntime) -> Result<(), Fail> {
         "read",
         "x",
         "link up",
+        "iiadm",
+        "iiadm p",
+        "iiadm p -e",
+        "iiadm p dep /v/a /s/a /c/a",
+        "iiadm p -e dep /v/a /s/a",
+        "iiadm p -e dep /v/a /s/a /c/a /c/a",
+        "iiadm p -e ind /v/a /s/a /c/a",
+        "iiadm p -e foo /v/a /s/a /c/a",
+        "iiadm p -e Dep /v/a /s/a /c/a",
+        "iiadm p -e /v/a /s/a /c/a dep",
+        "iiadm p -e dep v/a /s/a /c/a",
+        "iiadm p -e dep /v/a / /c/a",
+        "iiadm p -e dep /v/a /s/a c",
+        "iiadm p -n -e dep /v/a /s/a /c/a",
+        "iiadm p -g g -e dep /v/a /s/a /c/a",
+        "iiadm p -d dep /v/a /s/a /c/a",
+        "iiadm p -E dep /v/a /s/a /c/a",
+        "iiadm p e dep /v/a /s/a /c/a",
+        "iiadm -e dep /v/a /s/a /c/a",
+        "iiadm s -e dep /v/a /s/a /c/a",
+        "iiadm q -e dep /v/a /s/a /c/a",
+        "IIADM p -e dep /v/a /s/a /c/a",
+        "sndradm p -e dep /v/a /s/a /c/a",
         "arm s /v/a 0 0 0",
         "arm p v 0 0 0",
         "arm p /v/a 0 0",

@@ -1,6 +1,7 @@
 use crate::{answer_line, bad_line, fill, is_volume_name, runs};
 use avs_model::{
-    Answer, Blocks, GroupLines, Host, Name, Pattern, Recovered, Refusal, Second, SetLines, Word,
+    Answer, Blocks, GroupLine, GroupLines, Host, Name, Pattern, Recovered, Refusal, Role, Second,
+    SetLine, SetLines, Word,
 };
 use avs_seg::SegList;
 use std::alloc::Global;
@@ -114,6 +115,22 @@ fn prints_the_line_of_each_answer(rt: HostRuntime) -> Result<(), Fail> {
         (Answer::Refused(Refusal::NoGroup), "refused NoGroup\n"),
         (Answer::Refused(Refusal::Exists), "refused Exists\n"),
         (
+            Answer::Refused(Refusal::BusyVolume(Role::Master)),
+            "refused BusyVolume master\n",
+        ),
+        (
+            Answer::Refused(Refusal::BusyVolume(Role::Shadow)),
+            "refused BusyVolume shadow\n",
+        ),
+        (
+            Answer::Refused(Refusal::BusyVolume(Role::Bitmap)),
+            "refused BusyVolume bitmap\n",
+        ),
+        (
+            Answer::Refused(Refusal::BusyVolume(Role::Plain)),
+            "refused BusyVolume plain\n",
+        ),
+        (
             Answer::Refused(Refusal::Length(257)),
             "refused Length 257\n",
         ),
@@ -124,6 +141,11 @@ fn prints_the_line_of_each_answer(rt: HostRuntime) -> Result<(), Fail> {
         (
             Answer::Refused(Refusal::WrongState(Word::Unarmed)),
             "refused WrongState unarmed\n",
+        ),
+        (Answer::Refused(Refusal::NoContents), "refused NoContents\n"),
+        (
+            Answer::Refused(Refusal::BadRecord(4_294_967_295)),
+            "refused BadRecord 4294967295\n",
         ),
         (Answer::Down(Host::S), "down s\n"),
         (Answer::Refused(Refusal::Range(64)), "refused Range 64\n"),
@@ -189,5 +211,37 @@ fn prints_the_lines_of_a_recovery(rt: HostRuntime) -> Result<(), Fail> {
         let line = answer_line(alloc, &recovered(alloc, second))?;
         assert_eq!(rt; line.as_str(), want);
     }
+    Ok(())
+}
+
+#[test]
+fn prints_groups_in_front_of_their_sets(rt: HostRuntime) -> Result<(), Fail> {
+    let alloc = rt.alloc();
+    let mut groups = GroupLines::new(alloc);
+    let mut sets = SetLines::new(alloc);
+    for (word, place, left) in [("/s/a", 0, 0), ("/s/b", 18_446_744_073_709_551_615, 4096)] {
+        let word = word.as_bytes();
+        assert!(rt; is_volume_name(word));
+        groups.push(GroupLine {
+            group: Name::new(alloc, word)?,
+            session: 0,
+            place,
+        })?;
+        sets.push(SetLine {
+            set: Name::new(alloc, word)?,
+            left,
+        })?;
+    }
+    let answer = Answer::Up(Recovered {
+        host: Host::P,
+        second: Second::Kept,
+        groups,
+        sets,
+    });
+    let lines = answer_line(alloc, &answer)?;
+    assert_eq!(rt;
+        lines.as_str(),
+        "up p\nkept\ngroup /s/a plain session 0 at 0\ngroup /s/b plain session 0 at 18446744073709551615\nset /s/a left 0\nset /s/b left 4096\n"
+    );
     Ok(())
 }
