@@ -5,6 +5,7 @@ use Rattle.avs_dev.specs.Seen.{Seen}
 use Rattle.avs_dev.specs.declared.back.Why.{Why}
 use Rattle.avs_dev.specs.declared.back.Why.TheVariants.{Size, BadRecord, NoMemory, Fault}
 use Rattle.avs_model.specs.declared.shadow.Kind.{Kind}
+use Rattle.avs_model.specs.declared.shadow.Kind.TheVariants.{Ind, Dep, Compact}
 use Rattle.avs_chunk.specs.States.{on_master, on_shadow}
 use Rattle.avs_chunk.specs.ChunkSet.{ChunkSet, chunks_of, state_of}
 use Rattle.avs_chunk.specs.Making.{Fits, IsSmall, areas_on}
@@ -27,3 +28,12 @@ FindRefused shadow bitmap blocks Fault = ⊥
 -- how many chunks stand on the shadow alone, by the memory
 abbrev pub back_of : ChunkSet → ℕ
 back_of s = length (filter (λ c. state_of s c == on_shadow) (range_with_len 0 (chunks_of s)))
+
+-- how many chunks of an independent set stand on the master alone, by the memory
+abbrev pub left_by : Kind → ChunkSet → ℕ
+left_by Ind s = length (filter (λ c. state_of s c == on_master) (range_with_len 0 (chunks_of s)))
+left_by Dep s = 0
+left_by Compact s = 0
+
+abbrev pub left_of : ChunkSet → ℕ
+left_of s = left_by s.kind s

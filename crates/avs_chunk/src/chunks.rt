@@ -1,12 +1,12 @@
 // A shadow set over the disk of its master.
-ghost use Rattle.std.specs.Prelude.{◌≡◌, ◌⊎◌, ◌+◌, ◌*◌, ◌/◌, ◌<◌, ◌≤◌, IsTrue, IfOk, IfErr, Some, is_some, length};
+ghost use Rattle.std.specs.Prelude.{◌≡◌, ◌⊎◌, ◌+◌, ◌*◌, ◌/◌, ◌^◌, ◌<◌, ◌≤◌, IsTrue, IfOk, IfErr, Some, is_some, length};
 ghost use Rattle.std.specs.Option.{option_map};
 ghost use Rattle.avs_seg.specs.Segment.{seg_count};
 ghost use Rattle.avs_dev.specs.Seen.{Seen};
 ghost use Rattle.avs_chunk.specs.ChunkSet.{ChunkSet, CanSave, IsOnePlace, IsKept, chunks_of};
 ghost use Rattle.avs_chunk.specs.Calls.{Saves, ReadsShadow, WritesShadow};
 ghost use Rattle.avs_chunk.specs.Making.{Makes, MakeRefused, Loads, LoadRefused, Fits, areas_on};
-ghost use Rattle.avs_chunk.specs.Finding.{Finds, FindRefused, back_of};
+ghost use Rattle.avs_chunk.specs.Finding.{Finds, FindRefused, back_of, left_of};
 ghost use Rattle.avs_chunk.specs.Arming.{ArmsOne, written_of};
 
 use crate::copies::{copy_chunk, read_one, write_there};
@@ -260,9 +260,21 @@ impl<D: Disk> Chunks<D> {
 
     /// How many chunks stand on the shadow alone.
     pub fn back(&self) -> u32
-        ensures { result ≡ back_of self.now }
+        ensures counted { result ≡ back_of self.now }
+        ensures most { result ≤ 2 ^ 26 }
     {
         count_in(&self.memory, seg_count(self.blocks), ON_SHADOW)
+    }
+
+    /// How many chunks of an independent set stand on the master alone. Of a set of another kind none counts.
+    pub fn left(&self) -> u32
+        ensures counted { result ≡ left_of self.now }
+        ensures most { result ≤ 2 ^ 26 }
+    {
+        match self.kind {
+            Kind::Ind => count_in(&self.memory, seg_count(self.blocks), ON_MASTER),
+            Kind::Dep | Kind::Compact => 0,
+        }
     }
 
     /// What the set is.

@@ -85,7 +85,8 @@ fn one_if(holds: bool) -> u32
 /// How many of the first chunks are in a state.
 pub(crate) fn count_in(bytes: &[u8], end: u32, state: u8) -> u32
     requires { end ≤ 4 * length bytes.now }
-    ensures { result ≡ length (filter (λ c. state_in bytes.now c == state) (range_with_len 0 end)) }
+    ensures counted { result ≡ length (filter (λ c. state_in bytes.now c == state) (range_with_len 0 end)) }
+    ensures most { result ≤ end }
 {
     let mut count = 0;
     for chunk in 0..end {

@@ -442,3 +442,21 @@ fn labels_of_another_use(rt: HostRuntime) -> Result<(), Fail> {
     }
     Ok(())
 }
+
+#[test]
+fn chunks_that_are_left(rt: HostRuntime) -> Result<(), Fail> {
+    let alloc = rt.alloc();
+    for (kind, before, after) in [(Kind::Ind, 3, 2), (Kind::Dep, 0, 0)] {
+        let shadow = disk(alloc, BLOCKS, &[])?;
+        let bitmap = disk(alloc, 3, &[])?;
+        let set = Chunks::make(alloc, kind, shadow, bitmap, BLOCKS)?;
+        let mut case = Case {
+            set,
+            master: filled(&rt, alloc, &[])?,
+        };
+        assert_eq!(rt; case.set.left(), before);
+        assert_eq!(rt; case.save(&rt, 1), Ok(()));
+        assert_eq!(rt; case.set.left(), after);
+    }
+    Ok(())
+}

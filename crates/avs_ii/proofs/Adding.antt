@@ -103,6 +103,7 @@ module _ (V : List Seen) (d : Seen) where
     online = h.online;
     settled = h.settled;
     some = h.some;
+    on = h.on;
   }
 
   pub kept_more : (state : Seen) (block : GroupBlock) (sets : List HeldSet) → length V + 1 < 2 ^ 32 → IsKept state block V sets → IsKept state block more sets
@@ -134,6 +135,7 @@ module _ (V : List Seen) (d : Seen) where
     is = refl;
     group = let b = kept_on state in more_none b.slots b.note;
     sound = λ sound told. record { holds = sound.holds; disks = record { told = told_more sound.disks.told told; each = sound.disks.each } };
+    told = λ told now. record { state = told.state; volumes = told_more told.volumes now; sets = told.sets };
   }
 
   pub adds_one : (state : Seen) (block : GroupBlock) (h : HeldSet) → h.master < length V → Adds (as_group state block V (h ∷ [])) d (as_group state block more (h ∷ []))
@@ -141,6 +143,7 @@ module _ (V : List Seen) (d : Seen) where
     is = refl;
     group = let b = kept_on state in more_one b.slots b.note h there;
     sound = λ sound told. record { holds = sound.holds; disks = record { told = told_more sound.disks.told told; each = sound.disks.each } };
+    told = λ told now. record { state = told.state; volumes = told_more told.volumes now; sets = told.sets };
   }
 
 -- the same of disks of any type

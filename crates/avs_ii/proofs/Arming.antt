@@ -1,10 +1,10 @@
 -- The disks of a group by their numbers.
-use Rattle.std.proofs.Common.{◌≡◌, ◌⊎◌, ℕ, zero, suc, ◌+◌, ◌-◌, ◌<◌, ◌≤◌, Bool, true, false, not, IsTrue, List, [], ◌∷◌, ◌++◌, length, map, drop, set, get_or, slice_get, slice_index_or, Option, None, Some, is_some, refl, sym, ◌∙◌, ap, subst, arith}
+use Rattle.std.proofs.Common.{◌≡◌, ℕ, zero, suc, ◌+◌, ◌-◌, ◌<◌, ◌≤◌, Bool, true, false, not, IsTrue, List, [], ◌∷◌, ◌++◌, length, map, drop, set, get_or, slice_get, slice_index_or, Option, None, Some, is_some, refl, sym, ◌∙◌, ap, subst, arith}
 use Rattle.std.specs.Option.{option_map, option_map_or}
 use Rattle.std.specs.List.{flat_map}
 use Rattle.std.proofs.Math.Seq.{map-set_same}
 use Rattle.std.proofs.lemmas.List.{set-append_right, append-nil, set-get_or, get_or-map, map-set, length-map, set-append_left, get_or_append_left}
-use Rattle.std.proofs.lemmas.Option.{slice_get-get_or}
+use Rattle.std.proofs.lemmas.Option.{same_Some, slice_get-get_or}
 use Rattle.avs_dev.specs.Seen.{Seen, Arms}
 use Rattle.avs_code.specs.declared.group_blocks.GroupBlock.{GroupBlock}
 use Rattle.avs_chunk.specs.ChunkSet.{ChunkSet, disk_of, disks_there}
@@ -14,15 +14,19 @@ use Rattle.avs_ii.specs.Opened.{held_of, sets_of}
 use Rattle.avs_ii.specs.Held.{HeldSet, IiDisks, disks_of}
 use Rattle.avs_ii.specs.Meaning.{group_by, meaning, kept_on}
 use Rattle.avs_ii.specs.AsBelow.{quiet, quiet_set}
+use Rattle.avs_ii.specs.Shape.{disk_shape, set_shape, shape_of}
+use Rattle.avs_ii.specs.Sound.{IsSound, AreSound, HoldsBlock}
+use Rattle.avs_ii.specs.Parts.{set_parts}
+use Rattle.avs_ii.specs.Making.{IsSetTold}
 use Rattle.avs_ii.specs.Calls.{ArmsGroup, written_of}
+use Rattle.avs_ii.proofs.Making.{all_of, of_all}
+use Rattle.avs_ii.proofs.Shapes.{KeepsDisk, KeepsSet, shapes_at, told_set, keeps_disks, keeps_shape, keeps_told, keeps_group, settled_same, same_steady}
+use Rattle.avs_ii.proofs.Volumes.{sound_rest, rest_sound}
 use Rattle.avs_ii.proofs.Quiet.{group_quiet, group_quiet_none}
-use Rattle.avs_ii.proofs.Belows.{as_group, at_one, all_one, v_kept}
+use Rattle.avs_ii.proofs.Belows.{as_group, at_one, v_kept}
 use Rattle.avs_ii.proofs.Groups.{disks_two}
 use Rattle.avs_ii.proofs.Views.{held_some, kept_some}
 use Rattle.avs_ii.specs.Kept.{IsHeld, IsKept}
-use Rattle.avs_ii.specs.Saved.{IsSettledInMemory}
-use Rattle.avs_ii.specs.Making.{kind_number}
-use Rattle.avs_model.specs.declared.shadow.Kind.TheVariants.{Ind, Dep}
 
 get_left : {X : Type 0} (l m : List X) (i : ℕ) → i < length l → slice_get (l ++ m) i ≡ slice_get l i
 get_left [] m i lt = elim (none i lt) [ ]
@@ -84,8 +88,26 @@ module _ {A D : Type 0} (seen : A → Seen) (state : Seen) (block : GroupBlock) 
 
 -- ---- a tear is armed
 
+-- what arming keeps of a disk
+keeps_quiet : (d d' : Seen) → quiet d' ≡ quiet d → KeepsDisk d d'
+keeps_quiet d d' same = record {
+  shape = ap disk_shape same;
+  told = λ told. ap (λ (x : Seen). length x.image) same ∙ told ∙ sym (ap (λ (x : Seen). x.size) same);
+}
+
+-- and of a sound group, whose disks are quiet the same
+sound_armed : (state : Seen) (block : GroupBlock) (V V' : List Seen) (sets sets' : List HeldSet) → length sets ≤ 1 → length sets' ≤ 1 → map quiet V' ≡ map quiet V → map quiet_set sets' ≡ map quiet_set sets → IsSound (as_group state block V sets) → IsSound (as_group state block V' sets')
+sound_armed state block V V' sets sets' one one' same same_sets sound = record {
+  holds = sound.holds;
+  disks = rest_sound block.slots V' sets' one' (subst (λ (l : List Seen). AreSound block.slots l (map quiet_set sets')) (sym same) (subst (λ (l : List HeldSet). AreSound block.slots (map quiet V) l) (sym same_sets) (sound_rest block.slots V sets one sound.disks)));
+}
+
 abbrev arms_at : Option Seen → Bool
 arms_at o = option_map_or (λ (d : Seen). d.arms) o false
+
+-- what is sure of a disk is so of each that is the same
+sure_by : (o : Option Seen) (m : Seen) → o ≡ Some m → (result : Bool) → (IsTrue m.steady → IsTrue result) → (d : Seen) → o ≡ Some d → IsTrue d.steady → IsTrue result
+sure_by o m is result sure d got steady = sure (subst (λ (x : Seen). IsTrue x.steady) (same_Some d m (sym got ∙ is)) steady)
 
 module _ (state : Seen) (block : GroupBlock) (V : List Seen) (sets : List HeldSet) (disk place : ℕ) (is : disk ≡ suc place) (m m' : Seen) (at : m ≡ slice_index_or V place m) (lt : place < length V) (result : Bool) (arms : Arms m result m') where
   abbrev a : IiDisks
@@ -125,13 +147,24 @@ module _ (state : Seen) (block : GroupBlock) (V : List Seen) (sets : List HeldSe
   pub size_m' : m'.size ≡ m.size
   size_m' = ap (λ (d : Seen). d.size) quiet_m
 
-  pub volume_arms : (meaning a' ≡ meaning a) → ArmsGroup a disk result a'
-  volume_arms group = record {
+  volumes_quiet : map quiet (set V place m') ≡ map quiet V
+  volumes_quiet = map-set_same quiet V place m' m (quiet_m ∙ ap quiet at)
+
+  arms_shape : shape_of a' ≡ shape_of a
+  arms_shape = λ i. record { state = disk_shape state; volumes = shapes_at V place m m' at (keeps_quiet m m' quiet_m) i; sets = map set_shape sets }
+
+  pub volume_arms : length sets ≤ 1 → (meaning a' ≡ meaning a) → (IsTrue m.steady → IsTrue result) → ArmsGroup a disk result a'
+  volume_arms one group sure = record {
     answer = arms.answer ∙ ap arms_at (sym got);
     armed = λ so. disks_now ∙ ap (λ (d : Seen). set (disks_of a) disk d) (arms.armed so ∙ ap (λ (d : Seen). record d { armed = true }) (sym there));
     unarmed = λ not_so. ap (λ (l : List Seen). as_group state block l sets) (ap (λ (d : Seen). set V place d) (arms.unarmed not_so ∙ at ∙ same_own V place m lt) ∙ set-get_or V place state);
     block = refl;
     group = group;
+    shape = arms_shape;
+    still_steady = same_steady a a' arms_shape;
+    told = λ told. record { state = told.state; volumes = told_set V place m m' at (keeps_quiet m m' quiet_m) lt told.volumes; sets = told.sets };
+    sure = sure_by (slice_get (disks_of a) disk) m got result sure;
+    sound = sound_armed state block V (set V place m') sets sets one one volumes_quiet refl;
   }
     where
       same_own : (l : List Seen) (i : ℕ) (d : Seen) → i < length l → get_or l i d ≡ get_or l i state
@@ -142,22 +175,65 @@ module _ (state : Seen) (block : GroupBlock) (V : List Seen) (sets : List HeldSe
       same_own (x ∷ l) zero d lt = refl
       same_own (x ∷ l) (suc i) d lt = same_own l i d (omega (arith, lt))
 
-  volumes_quiet : map quiet (set V place m') ≡ map quiet V
-  volumes_quiet = map-set_same quiet V place m' m (quiet_m ∙ ap quiet at)
+pub arms_none : (state : Seen) (block : GroupBlock) (V : List Seen) (disk place : ℕ) → disk ≡ suc place → (m m' : Seen) → m ≡ slice_index_or V place m → place < length V → (result : Bool) → Arms m result m' → (IsTrue m.steady → IsTrue result) → ArmsGroup (as_group state block V []) disk result (as_group state block (set V place m') [])
+arms_none state block V disk place is m m' at lt result arms sure =
+    volume_arms state block V [] disk place is m m' at lt result arms (omega arith)
+    (let b = kept_on state in sym (group_quiet_none b.slots b.note (set V place m')) ∙ ap (λ (l : List Seen). group_by b.slots b.note l []) (volumes_quiet state block V [] disk place is m m' at lt result arms) ∙ group_quiet_none b.slots b.note V) sure
 
-pub arms_none : (state : Seen) (block : GroupBlock) (V : List Seen) (disk place : ℕ) → disk ≡ suc place → (m m' : Seen) → m ≡ slice_index_or V place m → place < length V → (result : Bool) → Arms m result m' → ArmsGroup (as_group state block V []) disk result (as_group state block (set V place m') [])
-arms_none state block V disk place is m m' at lt result arms =
-    volume_arms state block V [] disk place is m m' at lt result arms
-    (let b = kept_on state in sym (group_quiet_none b.slots b.note (set V place m')) ∙ ap (λ (l : List Seen). group_by b.slots b.note l []) (volumes_quiet state block V [] disk place is m m' at lt result arms) ∙ group_quiet_none b.slots b.note V)
+pub arms_one : (state : Seen) (block : GroupBlock) (V : List Seen) (h : HeldSet) (disk place : ℕ) → disk ≡ suc place → (m m' : Seen) → m ≡ slice_index_or V place m → place < length V → (result : Bool) → Arms m result m' → (IsTrue m.steady → IsTrue result) → ArmsGroup (as_group state block V (h ∷ [])) disk result (as_group state block (set V place m') (h ∷ []))
+arms_one state block V h disk place is m m' at lt result arms sure =
+    volume_arms state block V (h ∷ []) disk place is m m' at lt result arms (omega arith)
+    (let b = kept_on state in sym (group_quiet b.slots b.note (set V place m') h) ∙ ap (λ (l : List Seen). group_by b.slots b.note l (quiet_set h ∷ [])) (volumes_quiet state block V (h ∷ []) disk place is m m' at lt result arms) ∙ group_quiet b.slots b.note V h) sure
 
-pub arms_one : (state : Seen) (block : GroupBlock) (V : List Seen) (h : HeldSet) (disk place : ℕ) → disk ≡ suc place → (m m' : Seen) → m ≡ slice_index_or V place m → place < length V → (result : Bool) → Arms m result m' → ArmsGroup (as_group state block V (h ∷ [])) disk result (as_group state block (set V place m') (h ∷ []))
-arms_one state block V h disk place is m m' at lt result arms =
-    volume_arms state block V (h ∷ []) disk place is m m' at lt result arms
-    (let b = kept_on state in sym (group_quiet b.slots b.note (set V place m') h) ∙ ap (λ (l : List Seen). group_by b.slots b.note l (quiet_set h ∷ [])) (volumes_quiet state block V (h ∷ []) disk place is m m' at lt result arms) ∙ group_quiet b.slots b.note V h)
+-- the state disk
+state_arms : (state state' : Seen) (block : GroupBlock) (V : List Seen) (sets : List HeldSet) (result : Bool) → Arms state result state' → (IsTrue state.steady → IsTrue result) → ArmsGroup (as_group state block V sets) 0 result (as_group state' block V sets)
+state_arms state state' block V sets result arms sure = record {
+  answer = arms.answer;
+  armed = λ so. ap (λ (d : Seen). d ∷ V ++ others sets) (arms.armed so);
+  unarmed = λ not_so. ap (λ (d : Seen). as_group d block V sets) (arms.unarmed not_so);
+  block = refl;
+  group = ap (λ (d : Seen). meaning (as_group d block V sets)) same;
+  shape = shape;
+  still_steady = same_steady (as_group state block V sets) (as_group state' block V sets) shape;
+  told = λ told. record { state = (keeps_quiet state state' same).told told.state; volumes = told.volumes; sets = told.sets };
+  sound = λ sound. record { holds = holds sound.holds; disks = sound.disks };
+  sure = sure_by (Some state) state refl result sure;
+}
+  where
+    same : quiet state' ≡ quiet state
+    same = go result refl
+      where
+        go : (b : Bool) → result ≡ b → quiet state' ≡ quiet state
+        go true e = ap quiet (arms.armed (subst (λ (x : Bool). IsTrue x) (sym e) refl))
+        go false e = ap quiet (arms.unarmed (subst (λ (x : Bool). IsTrue (not x)) (sym e) refl))
+
+    holds : HoldsBlock state block → HoldsBlock state' block
+    holds h =
+        let q : HoldsBlock (quiet state') block = subst (λ (d : Seen). HoldsBlock d block) (sym same) (record { told = h.told; label = h.label; holds = h.holds }) in
+        record { told = q.told; label = q.label; holds = q.holds }
+
+    shape : shape_of (as_group state' block V sets) ≡ shape_of (as_group state block V sets)
+    shape = λ i. record { state = (keeps_quiet state state' same).shape i; volumes = map disk_shape V; sets = map set_shape sets }
+
+pub state_arms_as : (disk : ℕ) → disk ≡ 0 → (g : IiDisks) (state state' : Seen) (block : GroupBlock) (V : List Seen) (sets : List HeldSet) → as_group state block V sets ≡ g → (result : Bool) → Arms state result state' → (IsTrue state.steady → IsTrue result) → ArmsGroup g disk result (as_group state' block V sets)
+state_arms_as disk is g state state' block V sets view result arms sure =
+    subst (λ (x : IiDisks). ArmsGroup x disk result (as_group state' block V sets)) view
+    (subst (λ (k : ℕ). ArmsGroup (as_group state block V sets) k result (as_group state' block V sets)) (sym is) (state_arms state state' block V sets result arms sure))
 
 -- no disk has that number
 pub arms_nothing : (x : IiDisks) (disk : ℕ) → slice_get (disks_of x) disk ≡ None → ArmsGroup x disk false x
-arms_nothing x disk none = record { answer = ap arms_at (sym none); armed = λ so. cc; unarmed = λ so. refl; block = refl; group = refl }
+arms_nothing x disk none = record {
+  answer = ap arms_at (sym none);
+  armed = λ so. cc;
+  unarmed = λ so. refl;
+  block = refl;
+  group = refl;
+  shape = refl;
+  still_steady = refl;
+  told = λ told. told;
+  sound = λ sound. sound;
+  sure = λ d got steady. let e : None ≡ Some d = sym none ∙ got in absurd (cc);
+}
 
 -- ---- a tear on a disk of the set
 
@@ -235,16 +311,24 @@ module _ (state : Seen) (block : GroupBlock) (V : List Seen) (h : HeldSet) (disk
       (ap (λ (l : List Seen). slice_get l k) (sym two) ∙ found.1)
       (sym (disks_two c' there_after) ∙ now so d found.1 ∙ ap (λ (l : List Seen). set l k (record d { armed = true })) two)
 
-  set_quiet : quiet_set (record h { chunks = c' }) ≡ quiet_set h
-  set_quiet = go result refl
+  quiet_both : (quiet (disk_of c'.shadow) ≡ quiet (disk_of h.chunks.shadow)) × (quiet c'.areas.disk ≡ quiet h.chunks.areas.disk)
+  quiet_both = go result refl
     where
-      go : (b : Bool) → result ≡ b → quiet_set (record h { chunks = c' }) ≡ quiet_set h
-      go false e = ap (λ (c : ChunkSet). quiet_set (record h { chunks = c })) (arms.unarmed (subst (λ (x : Bool). IsTrue (not x)) (sym e) refl))
-      go true e =
-          let q = quiet_two e in
-          ap (λ (c : ChunkSet). quiet_set (record h { chunks = c })) arms.rest
-          ∙ ap (λ (o : Option Seen). record h { chunks = record h.chunks { shadow = o; areas = record h.chunks.areas { disk = quiet c'.areas.disk } } }) (option_quiet h.chunks.shadow c'.shadow there there_after q.0)
-          ∙ ap (λ (x : Seen). record h { chunks = record h.chunks { shadow = option_map quiet h.chunks.shadow; areas = record h.chunks.areas { disk = x } } }) q.1
+      go : (b : Bool) → result ≡ b → (quiet (disk_of c'.shadow) ≡ quiet (disk_of h.chunks.shadow)) × (quiet c'.areas.disk ≡ quiet h.chunks.areas.disk)
+      go true e = quiet_two e
+      go false e = let same = arms.unarmed (subst (λ (x : Bool). IsTrue (not x)) (sym e) refl) in (ap (λ (c : ChunkSet). quiet (disk_of c.shadow)) same, ap (λ (c : ChunkSet). quiet c.areas.disk) same)
+
+  set_quiet : quiet_set (record h { chunks = c' }) ≡ quiet_set h
+  set_quiet =
+      ap (λ (c : ChunkSet). quiet_set (record h { chunks = c })) arms.rest
+      ∙ ap (λ (o : Option Seen). record h { chunks = record h.chunks { shadow = o; areas = record h.chunks.areas { disk = quiet c'.areas.disk } } }) (option_quiet h.chunks.shadow c'.shadow there there_after quiet_both.0)
+      ∙ ap (λ (x : Seen). record h { chunks = record h.chunks { shadow = option_map quiet h.chunks.shadow; areas = record h.chunks.areas { disk = x } } }) quiet_both.1
+
+  keeps_armed : KeepsSet h c'
+  keeps_armed = keeps_disks h c' arms.rest arms.still_there (keeps_quiet (disk_of h.chunks.shadow) (disk_of c'.shadow) quiet_both.0) (keeps_quiet h.chunks.areas.disk c'.areas.disk quiet_both.1)
+
+  set_shape_same : shape_of s' ≡ shape_of s
+  set_shape_same = λ i. record { state = disk_shape state; volumes = map disk_shape V; sets = keeps_shape h c' keeps_armed i ∷ [] }
 
   pub set_arms : ArmsGroup s disk result s'
   set_arms = record {
@@ -256,6 +340,11 @@ module _ (state : Seen) (block : GroupBlock) (V : List Seen) (h : HeldSet) (disk
         sym (group_quiet b.slots b.note V (record h { chunks = c' }))
         ∙ ap (λ (x : HeldSet). group_by b.slots b.note (map quiet V) (x ∷ [])) set_quiet
         ∙ group_quiet b.slots b.note V h;
+    shape = set_shape_same;
+    still_steady = same_steady s s' set_shape_same;
+    told = λ told. record { state = told.state; volumes = told.volumes; sets = all_of IsSetTold (set_parts (record h { chunks = c' })) (keeps_told h c' keeps_armed (of_all IsSetTold (set_parts h) told.sets)) };
+    sound = sound_armed state block V V (h ∷ []) (record h { chunks = c' } ∷ []) (omega arith) (omega arith) refl (ap (λ (x : HeldSet). x ∷ []) set_quiet);
+    sure = λ d got. arms.sure d (sym own_disk ∙ got);
   }
     where
       is_true : (b : Bool) → IsTrue b → b ≡ true
@@ -277,33 +366,13 @@ module _ (state : Seen) (block : GroupBlock) (V : List Seen) (h : HeldSet) (disk
           ∙ ap (λ (x : Seen). set (disks_of s) disk (record x { armed = true })) (sym old)
 
   pub set_arms_kept : IsKept state block V (h ∷ []) → IsKept state block V (record h { chunks = c' } ∷ [])
-  set_arms_kept kept =
-      let own = at_one (IsHeld block.slots V) h kept.held in
-      record {
-        room = kept.room;
-        keeps = kept.keeps;
-        fits = kept.fits;
-        count = kept.count;
-        held = all_one (IsHeld block.slots V) (record h { chunks = c' }) (record {
-          slot = own.slot;
-          master = own.master;
-          there = there_after;
-          blocks = own.blocks ∙ sym arms.blocks;
-          whole = subst (λ (c : ChunkSet). (c.kind ≡ Ind) ⊎ (c.kind ≡ Dep)) (sym arms.rest) own.whole;
-          area = λ l. ap (λ (c : ChunkSet). c.areas.live_b) arms.rest ∙ own.area l;
-          first = λ no'. ap (λ (c : ChunkSet). c.areas.live_b) arms.rest ∙ own.first no';
-          number = λ l. own.number l ∙ ap (λ (c : ChunkSet). kind_number c.kind) (sym arms.rest);
-          online = own.online;
-          settled = subst (λ (c : ChunkSet). IsSettledInMemory c) (sym arms.rest) (record { none = own.settled.none });
-          some = subst (λ (n : ℕ). 0 < n) (sym arms.blocks) own.some;
-        });
-      }
+  set_arms_kept kept = keeps_group state block V V h c' keeps_armed refl (settled_same h c' arms.rest (at_one (IsHeld block.slots V) h kept.held).settled) kept
 
 -- ---- the same of disks of any type
 
 module _ {A D : Type 0} (seen : A → Seen) (state : Seen) (block : GroupBlock) (items : List A) (o : Option (Held D)) (g : IiDisks) (view : as_group state block (map seen items) (sets_of o) ≡ g) (kept : IsKept state block (map seen items) (sets_of o)) (disk place : ℕ) (is : disk ≡ suc place) where
-  pub volume_arms_as : (was new : A) → was ≡ slice_index_or items place was → place < length items → (result : Bool) → Arms (seen was) result (seen new) → ArmsGroup g disk result (as_group state block (map seen (set items place new)) (sets_of o))
-  volume_arms_as was new value lt result arms =
+  pub volume_arms_as : (was new : A) → was ≡ slice_index_or items place was → place < length items → (result : Bool) → Arms (seen was) result (seen new) → (IsTrue (seen was).steady → IsTrue result) → ArmsGroup g disk result (as_group state block (map seen (set items place new)) (sets_of o))
+  volume_arms_as was new value lt result arms sure =
       subst (λ (x : IiDisks). ArmsGroup x disk result (as_group state block (map seen (set items place new)) (sets_of o))) view
       (subst (λ (l : List Seen). ArmsGroup (as_group state block (map seen items) (sets_of o)) disk result (as_group state block l (sets_of o))) (sym (map-set seen items place new)) (go o))
     where
@@ -314,8 +383,8 @@ module _ {A D : Type 0} (seen : A → Seen) (state : Seen) (block : GroupBlock) 
       lt' = omega (arith, lt, length-map items seen)
 
       go : (o : Option (Held D)) → ArmsGroup (as_group state block (map seen items) (sets_of o)) disk result (as_group state block (set (map seen items) place (seen new)) (sets_of o))
-      go None = arms_none state block (map seen items) disk place is (seen was) (seen new) at lt' result arms
-      go (Some h) = arms_one state block (map seen items) (held_of h) disk place is (seen was) (seen new) at lt' result arms
+      go None = arms_none state block (map seen items) disk place is (seen was) (seen new) at lt' result arms sure
+      go (Some h) = arms_one state block (map seen items) (held_of h) disk place is (seen was) (seen new) at lt' result arms sure
 
   pub volume_arms_kept : (was new : A) → was ≡ slice_index_or items place was → place < length items → (result : Bool) → Arms (seen was) result (seen new) → IsKept state block (map seen (set items place new)) (sets_of o)
   volume_arms_kept was new value lt result arms =

@@ -1,5 +1,5 @@
 -- What a write to a volume makes of a group that holds one set at most, as volumes to write to.
-use Rattle.std.proofs.Common.{◌≡◌, ◌≢◌, ◌⊎◌, inl, inr, ℕ, zero, suc, ◌+◌, ◌-◌, ◌/◌, ◌^◌, ◌<◌, ◌≤◌, min, Bool, true, false, not, cond, eqb, ◌&&◌, IsTrue, All, List, [], ◌∷◌, length, map, set, get_or, slice_index, slice_index_or, is_some, Result, Ok, Err, is_ok, refl, sym, ◌∙◌, ap, subst, arith}
+use Rattle.std.proofs.Common.{◌≡◌, ◌≢◌, inl, inr, ℕ, zero, suc, ◌+◌, ◌-◌, ◌/◌, ◌^◌, ◌<◌, ◌≤◌, min, Bool, true, false, not, cond, eqb, ◌&&◌, IsTrue, All, List, [], ◌∷◌, length, map, set, get_or, slice_index, slice_index_or, is_some, Result, Ok, Err, is_ok, refl, sym, ◌∙◌, ap, subst, arith}
 use Rattle.std.specs.List.{list_all, flat_map}
 use Rattle.std.proofs.Math.Seq.{map-set_same}
 use Rattle.std.proofs.lemmas.Bool.{cases_Bool, cases_eq, eqb-true, eq-eqb}
@@ -26,15 +26,14 @@ use Rattle.avs_ii.specs.Held.{HeldSet, IiDisks, slot_in, is_live, disks_of, pend
 use Rattle.avs_ii.specs.Meaning.{group_by, shadow_of, disk_image}
 use Rattle.avs_ii.specs.Sound.{IsSoundSet, HasNoneBack}
 use Rattle.avs_ii.specs.Saved.{WritesMaster, IsSettledInMemory}
-use Rattle.avs_model.specs.declared.shadow.Kind.{Kind}
-use Rattle.avs_model.specs.declared.shadow.Kind.TheVariants.{Ind, Dep}
-use Rattle.avs_ii.specs.Making.{kind_number}
 use Rattle.avs_ii.specs.Kept.{IsHeld, IsKept}
-use Rattle.avs_ii.specs.AsBelow.{below_of, rest_of, quiet, quiet_set, group_of, IsSoundRest, WroteRest, written_on}
+use Rattle.avs_ii.specs.Calls.{written_on}
+use Rattle.avs_ii.specs.AsBelow.{below_of, rest_of, quiet, quiet_set, group_of, IsSoundRest, WroteRest}
 use Rattle.avs_ii.proofs.Writes.{Ready, none_after, image_now, images_now, image_at, master_done, master_stopped, volume_done, volume_stopped, slots_other}
 use Rattle.avs_ii.proofs.Marks.{with_one}
 use Rattle.avs_ii.proofs.Forms.{group_none, group_pending, group_one, set_state}
 use Rattle.avs_ii.proofs.Groups.{three_later, three_rose, three_armed, three_used, three_steady, three_are_steady}
+use Rattle.avs_ii.proofs.Shapes.{keeps_group, keeps_written, shapes_at, same_disk}
 use Rattle.avs_ii.proofs.Quiet.{group_quiet, group_quiet_none, quiet_sound, sound_one, told_at}
 
 abbrev pub as_group : Seen → GroupBlock → List Seen → List HeldSet → IiDisks
@@ -78,9 +77,9 @@ module _ (V : List Seen) (vol : ℕ) (m m' : Seen) (there : vol < length V) (dis
 
 -- a set stays in a group whose volumes keep their sizes
 pub held_same : (slots : List Slot) (V V' : List Seen) (s : HeldSet) → map (λ (d : Seen). d.size) V' ≡ map (λ (d : Seen). d.size) V → length V' ≡ length V → IsHeld slots V s → IsHeld slots V' s
-held_same slots V V' s sizes long h = record { slot = h.slot; master = omega (arith, h.master, long); there = h.there; blocks = ap (λ (l : List ℕ). slice_index l s.master) sizes ∙ h.blocks; whole = h.whole; area = h.area; first = h.first; number = h.number; online = h.online; settled = h.settled; some = h.some }
+held_same slots V V' s sizes long h = record { slot = h.slot; master = omega (arith, h.master, long); there = h.there; blocks = ap (λ (l : List ℕ). slice_index l s.master) sizes ∙ h.blocks; whole = h.whole; area = h.area; first = h.first; number = h.number; online = h.online; settled = h.settled; some = h.some; on = h.on }
 
-both_true : (a b : Bool) → (a && b) ≡ true → (a ≡ true) × (b ≡ true)
+pub both_true : (a b : Bool) → (a && b) ≡ true → (a ≡ true) × (b ≡ true)
 both_true true true t = (refl, refl)
 both_true true false t = cc
 both_true false b t = cc
@@ -120,25 +119,7 @@ module _ (state : Seen) (block : GroupBlock) (V : List Seen) (h : HeldSet) (kept
     sizes = sizes_same V vol m m' there disk same.master.size
 
     pub master_kept : IsKept state block V' (h' ∷ [])
-    master_kept = record {
-      room = kept.room;
-      keeps = kept.keeps;
-      fits = kept.fits;
-      count = omega (arith, kept.count, length-set V vol m');
-      held = all_one (IsHeld block.slots V') h' (record {
-        slot = own.slot;
-        master = omega (arith, own.master, length-set V vol m');
-        there = subst (λ (b : Bool). IsTrue b) (sym stays.there) own.there;
-        blocks = ap (λ (l : List ℕ). slice_index l h.master) sizes ∙ own.blocks ∙ sym stays.blocks;
-        whole = subst (λ (k : Kind). (k ≡ Ind) ⊎ (k ≡ Dep)) (sym stays.kind) own.whole;
-        area = λ l. stays.live_b ∙ own.area l;
-        first = λ no'. stays.live_b ∙ own.first no';
-        number = λ l. own.number l ∙ ap (λ (k : Kind). kind_number k) (sym stays.kind);
-        online = own.online;
-        settled = settled;
-        some = subst (λ (n : ℕ). 0 < n) (sym stays.blocks) own.some;
-      });
-    }
+    master_kept = keeps_group state block V V' h c' (keeps_written h c' m m' stays same) (shapes_at V vol m m' disk (same_disk m m' same.master)) settled kept
 
     there' : IsTrue (is_some c'.shadow)
     there' = subst (λ (b : Bool). IsTrue b) (sym stays.there) own.there
@@ -245,7 +226,7 @@ module _ (state : Seen) (block : GroupBlock) (V : List Seen) (h : HeldSet) (kept
       })));
     }
 
-    written_set : written_on (rest_of g') ≡ set (written_on (rest_of g)) vol m'.written
+    written_set : written_on (rest_of g').volumes ≡ set (written_on (rest_of g).volumes) vol m'.written
     written_set = written_at V vol m m' there disk
 
     module _ (range : 0 < length bytes / 512) (inside : at + length bytes / 512 ≤ h.chunks.blocks) {T E : Type 0} where
@@ -258,7 +239,7 @@ module _ (state : Seen) (block : GroupBlock) (V : List Seen) (h : HeldSet) (kept
         stopped = λ sound ok. cc;
         sound = λ sound ok. sound_after (w.known (sound_set sound).known (sound_told sound))
             (none_after h.chunks c' _ _ stays.blocks (sound_set sound).none_back (w.split (sound_set sound).known (sound_told sound))) sound (same.master.told (sound_told sound));
-        counts = λ ok. written_set ∙ ap (λ (n : ℕ). set (written_on (rest_of g)) vol n) (w.counted ∙ ap (λ (n : ℕ). min (n + length bytes / 512) (2 ^ 64 - 1)) (sym (written_was V vol m m' there disk)));
+        counts = λ ok. written_set ∙ ap (λ (n : ℕ). set (written_on (rest_of g).volumes) vol n) (w.counted ∙ ap (λ (n : ℕ). min (n + length bytes / 512) (2 ^ 64 - 1)) (sym (written_was V vol m m' there disk)));
       }
       master_wrote (Err f) w = record {
         slots = refl;
@@ -355,7 +336,7 @@ module _ (state : Seen) (block : GroupBlock) (V : List Seen) (sets : List HeldSe
       done = λ sound ok. done sound (w.done (told_at V vol m sound.told there disk));
       stopped = λ sound ok. cc;
       sound = λ sound ok. v_sound sound (w.told (told_at V vol m sound.told there disk));
-      counts = λ ok. written_at V vol m m' there disk ∙ ap (λ (n : ℕ). set (written_on (rest_of p)) vol n) (w.counted ∙ ap (λ (n : ℕ). min (n + length bytes / 512) (2 ^ 64 - 1)) (sym (written_was V vol m m' there disk)));
+      counts = λ ok. written_at V vol m m' there disk ∙ ap (λ (n : ℕ). set (written_on (rest_of p).volumes) vol n) (w.counted ∙ ap (λ (n : ℕ). min (n + length bytes / 512) (2 ^ 64 - 1)) (sym (written_was V vol m m' there disk)));
     }
     v_wrote (Err f) w = record {
       slots = refl;

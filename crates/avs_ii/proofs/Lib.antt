@@ -4,6 +4,7 @@ pub mod Masters
 pub mod Several
 pub mod Groups
 pub mod Quiet
+pub mod Shapes
 pub mod Belows
 pub mod Views
 pub mod Commits
@@ -12,8 +13,12 @@ pub mod OpenSets
 pub mod Making
 pub mod TakenApart
 pub mod Loading
+pub mod Confirming
+pub mod Keeping
 pub mod Shadows
+pub mod Volumes
 pub mod ShadowViews
+pub mod Copying
 pub mod Adding
 pub mod Arming
 pub mod Writes

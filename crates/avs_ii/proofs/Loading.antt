@@ -21,16 +21,17 @@ use Rattle.avs_model.specs.Shadows.{Online, Offline, Exported, Standing, GroupSt
 use Rattle.avs_model.specs.declared.shadow.Kind.{Kind}
 use Rattle.avs_model.specs.declared.shadow.Kind.TheVariants.{Ind, Dep, Compact}
 use Rattle.avs_chunk.specs.States.{state_on, blocks_for}
-use Rattle.avs_chunk.specs.ChunkSet.{ChunkSet, disk_of, disk_state, both_disks, shadow_label}
+use Rattle.avs_chunk.specs.ChunkSet.{ChunkSet, HasLabel, disk_of, disk_state, both_disks, shadow_label}
 use Rattle.avs_chunk.specs.Making.{areas_on}
-use Rattle.avs_ii.specs.Held.{HeldSet, slot_in, is_live, has_flag, area_b, offline, exported, enabled_in}
+use Rattle.avs_ii.specs.Shape.{disk_shape, set_shape, shape_of, parts_shape}
+use Rattle.avs_ii.specs.Held.{HeldSet, disks_of, slot_in, is_live, has_flag, area_b, offline, exported, enabled_in}
 use Rattle.avs_ii.specs.Meaning.{group_by, meaning, kept_on, standing_of, picked, disk_image, shadow_by}
-use Rattle.avs_ii.specs.Sound.{IsSound, HoldsBlock, IsSoundSet, HasNoneBack, AreSound}
+use Rattle.avs_ii.specs.Sound.{HoldsBlock, IsSoundSet, HasNoneBack, AreSound}
 use Rattle.avs_ii.specs.Kept.{IsHeld, IsKept}
 use Rattle.avs_ii.specs.SetDisks.{SetDisks}
 use Rattle.avs_ii.specs.Parts.{PartDisks, size_of, held_on, set_parts, parts_of, meaning_of_parts}
 use Rattle.avs_ii.specs.Making.{IsPlaced, ArePlaced, IsLabelled, IsSetSettled, IsSetTold, AreTold, AreWhole, FitsSlot, StateRefused, Loads, LoadRefused, WhyNotFound, no_faults, set_no_faults, parts_no_faults, disks_in, between, kind_number}
-use Rattle.avs_ii.specs.Opening.{live_area, OpensChunks, OpensSet, WhyNotOpened, SetRefused, OpensOne, RefusesOne, IsOnDisks, AreFew}
+use Rattle.avs_ii.specs.Opening.{live_area, OpensChunks, OpensSet, WhyNotOpened, SetRefused, OpensOne, RefusesOne, AreFew}
 use Rattle.avs_dev.specs.Below.{IsNoteTold}
 use Rattle.avs_ii.specs.AsBelow.{below_of, rest_of, group_of}
 use Rattle.avs_ii.proofs.Quiet.{group_quiet, group_quiet_none}
@@ -80,6 +81,13 @@ module _ (slots : List Slot) (V : List Seen) (s : SetDisks) (chunks : ChunkSet) 
     online = λ l. online_is (slot_in slots s.slot) (placed.fits l).online (placed.fits l).here;
     settled = o.settled;
     some = omega (arith, placed.some, blocks_are);
+    on = record {
+      fits = record {
+        shadow = λ d is. omega (arith, o.fits.shadow d (sym shadow_are ∙ is), blocks_are);
+        bitmap = omega (arith, o.fits.bitmap, bitmap_size, ap (λ (n : ℕ). blocks_for (seg_count n)) blocks_are);
+      };
+      areas = ap (λ (c : ChunkSet). c.areas) o.is ∙ (λ i. areas_on chunks.areas.disk (sym blocks_are i) (sym (ap (λ (c : ChunkSet). c.areas.live_b) o.is) i));
+    };
   }
 
   -- the states on the bitmap, by the live area
@@ -118,6 +126,22 @@ module _ (slots : List Slot) (V : List Seen) (s : SetDisks) (chunks : ChunkSet) 
       by_live true l = subst (λ (b : Bool). All (IsSoundSet slots) (cond b (held ∷ []) [])) (sym l) (all_of (IsSoundSet slots) held (sound_opened told l))
       by_live false l = subst (λ (b : Bool). All (IsSoundSet slots) (cond b (held ∷ []) [])) (sym l) (all_none (IsSoundSet slots))
 
+  told_opened : IsSetTold s → IsSetTold (set_parts held)
+  told_opened told = record {
+    shadow = subst (λ (q : Option Seen). IsTold (disk_of q)) (sym shadow_are) told.shadow;
+    bitmap = ap (λ (i : Image). length i) bitmap_image ∙ told.bitmap ∙ sym bitmap_size;
+  }
+
+  shape_opened : set_shape held ≡ set_shape (held_on V s)
+  shape_opened = λ i. record {
+    slot = s.slot;
+    master = s.master;
+    kind = ap (λ (c : ChunkSet). c.kind) o.is i;
+    blocks = blocks_are i;
+    shadow = ap (λ (q : Option Seen). option_map disk_shape q) shadow_are i;
+    bitmap = ap disk_shape o.disk i;
+  }
+
   parts_opened : set_no_faults (set_parts held) ≡ set_no_faults s
   parts_opened = λ i. record {
     slot = s.slot;
@@ -154,12 +178,25 @@ same_group slots note V slot kind master shadow bitmap faults blocks live_b memo
 
 -- ---- a group that is taken apart
 
-module _ (slots : List Slot) (note : List ℕ) (V : List Seen) (h : HeldSet) (own : IsHeld slots V h) (on : IsOnDisks h) where
+-- a set that is found again where it is enabled
+pub record IsFindable (slots : List Slot) (s : HeldSet) : Type 0 where
+  pub label : is_live slots s.slot ≡ true → HasLabel s.chunks
+  pub none_back : is_live slots s.slot ≡ true → HasNoneBack s.chunks
+
+pub findable : (slots : List Slot) (V : List Seen) (sets : List HeldSet) → length sets ≤ 1 → AreSound slots V sets → All (IsFindable slots) sets
+findable slots V [] one sound = all_none (IsFindable slots)
+findable slots V (h ∷ []) one sound = all_of (IsFindable slots) h (record { label = λ l. (own l).label; none_back = λ l. (own l).none_back })
+  where
+    own : is_live slots h.slot ≡ true → IsSoundSet slots h
+    own l = of_all (IsSoundSet slots) h (subst (λ (b : Bool). All (IsSoundSet slots) (cond b (h ∷ []) [])) l sound.each)
+findable slots V (h ∷ k ∷ l) one sound = absurd (omega (arith, one))
+
+module _ (slots : List Slot) (note : List ℕ) (V : List Seen) (h : HeldSet) (own : IsHeld slots V h) where
   pub meaning_set : (slots' : List Slot) → group_by slots' note V (held_on V (set_parts h) ∷ []) ≡ group_by slots' note V (h ∷ [])
   meaning_set slots' =
       ap (λ (n : ℕ). group_by slots' note V (set_with h.slot h.chunks.kind h.master h.chunks.shadow h.chunks.areas.disk n false [] ∷ [])) own.blocks
       ∙ sym (same_group slots' note V h.slot h.chunks.kind h.master h.chunks.shadow h.chunks.areas.disk h.chunks.areas.disk.faults h.chunks.blocks h.chunks.areas.live_b h.chunks.memory)
-      ∙ ap (λ (a : Areas). group_by slots' note V (record { slot = h.slot; master = h.master; chunks = record { kind = h.chunks.kind; shadow = h.chunks.shadow; areas = a; memory = h.chunks.memory; blocks = h.chunks.blocks } } ∷ [])) (sym on.areas)
+      ∙ ap (λ (a : Areas). group_by slots' note V (record { slot = h.slot; master = h.master; chunks = record { kind = h.chunks.kind; shadow = h.chunks.shadow; areas = a; memory = h.chunks.memory; blocks = h.chunks.blocks } } ∷ [])) (sym own.on.areas)
 
   online_fits : is_live slots h.slot ≡ true → FitsSlot (slot_in slots h.slot) h.chunks.kind
   online_fits l = record { number = own.number l; online = by_flags.0; here = by_flags.1 }
@@ -191,35 +228,45 @@ module _ (slots : List Slot) (note : List ℕ) (V : List Seen) (h : HeldSet) (ow
         slot = own.slot;
         master = own.master;
         there = there;
-        shadow = omega (arith, own.blocks, on.fits.shadow (disk_of h.chunks.shadow) there);
-        bitmap = subst (λ (n : ℕ). blocks_for (seg_count n) ≤ h.chunks.areas.disk.size) (sym own.blocks) on.fits.bitmap;
+        shadow = omega (arith, own.blocks, own.on.fits.shadow (disk_of h.chunks.shadow) there);
+        bitmap = subst (λ (n : ℕ). blocks_for (seg_count n) ≤ h.chunks.areas.disk.size) (sym own.blocks) own.on.fits.bitmap;
         some = omega (arith, own.some, own.blocks);
         whole = own.whole;
         plain = refl;
         fits = online_fits;
       }
 
-  -- what soundness says of an enabled set
-  sound_live : AreSound slots V (h ∷ []) → is_live slots h.slot ≡ true → IsSoundSet slots h
-  sound_live sound l = of_all (IsSoundSet slots) h (subst (λ (b : Bool). All (IsSoundSet slots) (cond b (h ∷ []) [])) l sound.each)
+  labelled_set : IsFindable slots h → IsLabelled slots V (set_parts h)
+  labelled_set found = record { label = λ l. subst (λ (n : ℕ). IsLabel (block_at h.chunks.areas.disk.image 0) (shadow_label n)) (sym own.blocks) (found.label l).label }
 
-  labelled_set : AreSound slots V (h ∷ []) → IsLabelled slots V (set_parts h)
-  labelled_set sound = record { label = λ l. subst (λ (n : ℕ). IsLabel (block_at h.chunks.areas.disk.image 0) (shadow_label n)) (sym own.blocks) (sound_live sound l).label.label }
-
-  settled_set : AreSound slots V (h ∷ []) → IsSetSettled slots V (set_parts h)
-  settled_set sound = record { none_back = λ l. record { none = λ c lt is. (sound_live sound l).none_back.none c (subst (λ (n : ℕ). c < seg_count n) own.blocks lt) (same l c ∙ is) } }
+  settled_set : IsFindable slots h → IsSetSettled slots V (set_parts h)
+  settled_set found = record { none_back = λ l. record { none = λ c lt is. (found.none_back l).none c (subst (λ (n : ℕ). c < seg_count n) own.blocks lt) (same l c ∙ is) } }
     where
       same : is_live slots h.slot ≡ true → (c : ℕ) → disk_state h.chunks c ≡ state_on (live (areas_on h.chunks.areas.disk (size_of V h.master) (has_flag area_b (slot_in slots h.slot)))) c
       same l c =
-          ap (λ (a : Areas). state_on (live a) c) on.areas
+          ap (λ (a : Areas). state_on (live a) c) own.on.areas
           ∙ ap (λ (b : Bool). state_on (live (areas_on h.chunks.areas.disk h.chunks.blocks b)) c) (own.area l)
           ∙ ap (λ (n : ℕ). state_on (live (areas_on h.chunks.areas.disk n (has_flag area_b (slot_in slots h.slot)))) c) (sym own.blocks)
 
 module _ (state : Seen) (block : GroupBlock) (V : List Seen) where
-  pub meaning_parts : (sets : List HeldSet) → length sets ≤ 1 → IsKept state block V sets → All IsOnDisks sets → meaning_of_parts (parts_of (the_group state block V sets)) ≡ meaning (the_group state block V sets)
-  meaning_parts [] one kept on = refl
-  meaning_parts (h ∷ []) one kept on = meaning_set block.slots (kept_on state).note V h (of_all (IsHeld block.slots V) h kept.held) (of_all IsOnDisks h on) (kept_on state).slots
-  meaning_parts (h ∷ k ∷ l) one kept on = absurd (omega (arith, one))
+  pub meaning_parts : (sets : List HeldSet) → length sets ≤ 1 → IsKept state block V sets → meaning_of_parts (parts_of (the_group state block V sets)) ≡ meaning (the_group state block V sets)
+  meaning_parts [] one kept = refl
+  meaning_parts (h ∷ []) one kept = meaning_set block.slots (kept_on state).note V h (of_all (IsHeld block.slots V) h kept.held) (kept_on state).slots
+  meaning_parts (h ∷ k ∷ l) one kept = absurd (omega (arith, one))
+
+  pub shape_parts : (sets : List HeldSet) → length sets ≤ 1 → IsKept state block V sets → parts_shape (parts_of (the_group state block V sets)) ≡ shape_of (the_group state block V sets)
+  shape_parts [] one kept = refl
+  shape_parts (h ∷ []) one kept = ap (λ (n : ℕ). record { state = disk_shape state; volumes = map disk_shape V; sets = record (set_shape h) { blocks = n } ∷ [] }) (of_all (IsHeld block.slots V) h kept.held).blocks
+  shape_parts (h ∷ k ∷ l) one kept = absurd (omega (arith, one))
+
+  pub disks_parts : (sets : List HeldSet) → length sets ≤ 1 → disks_in (parts_of (the_group state block V sets)) ≡ disks_of (the_group state block V sets)
+  disks_parts [] one = ap (λ (l : List Seen). state ∷ l) (append-nil (V ++ []))
+  disks_parts (h ∷ []) one = go h.chunks.shadow
+    where
+      go : (o : Option Seen) → disks_in (parts_of (the_group state block V (record h { chunks = record h.chunks { shadow = o } } ∷ []))) ≡ disks_of (the_group state block V (record h { chunks = record h.chunks { shadow = o } } ∷ []))
+      go None = ap (λ (l : List Seen). state ∷ l) (append-nil (V ++ (h.chunks.areas.disk ∷ [])))
+      go (Some d) = ap (λ (l : List Seen). state ∷ l) (append-nil (V ++ (d ∷ h.chunks.areas.disk ∷ [])))
+  disks_parts (h ∷ k ∷ l) one = absurd (omega (arith, one))
 
   pub rest_parts : (sets : List HeldSet) → length sets ≤ 1 → IsNoteTold (below_of (the_group state block V sets)) → meaning (the_group state block V sets) ≡ record (group_of (rest_of (the_group state block V sets))) { note = (kept_on state).note }
   rest_parts [] one told =
@@ -230,38 +277,28 @@ module _ (state : Seen) (block : GroupBlock) (V : List Seen) where
       ap (λ (s : List Slot). group_by s (kept_on state).note V (h ∷ [])) is ∙ sym (group_quiet block.slots (kept_on state).note V h)
   rest_parts (h ∷ k ∷ l) one told = absurd (omega (arith, one))
 
-  pub whole_parts : (sets : List HeldSet) → length sets ≤ 1 → IsKept state block V sets → All IsOnDisks sets → IsSound (the_group state block V sets) → AreWhole (parts_of (the_group state block V sets))
-  whole_parts sets one kept on sound =
-      let is = kept_is state block sound.holds in
+  pub whole_parts : (sets : List HeldSet) → length sets ≤ 1 → IsKept state block V sets → HoldsBlock state block → All (IsFindable block.slots) sets → AreWhole (parts_of (the_group state block V sets))
+  whole_parts sets one kept holds found =
+      let is = kept_is state block holds in
       let slots : (kept_on state).slots ≡ block.slots = ap (λ (b : GroupBlock). b.slots) is in
       record {
         state = kept.room;
-        label = sound.holds.label;
-        block = subst (λ (b : GroupBlock). IsGroupBlock (block_at state.image 1) b) (sym is) sound.holds.holds;
+        label = holds.label;
+        block = subst (λ (b : GroupBlock). IsGroupBlock (block_at state.image 1) b) (sym is) holds.holds;
         placed = record {
-          each = subst (λ (s : List Slot). All (IsPlaced s V) (map set_parts sets)) (sym slots) (all_placed sets one kept.held on);
+          each = subst (λ (s : List Slot). All (IsPlaced s V) (map set_parts sets)) (sym slots) (each (IsPlaced block.slots V) (λ h own f. placed_set block.slots [] V h own) sets one kept.held found);
           one = omega (arith, one, length-map sets set_parts);
           count = kept.count;
           none = refl;
         };
-        labelled = subst (λ (s : List Slot). All (IsLabelled s V) (map set_parts sets)) (sym slots) (all_labelled sets one kept.held on sound.disks);
-        settled = subst (λ (s : List Slot). All (IsSetSettled s V) (map set_parts sets)) (sym slots) (all_settled sets one kept.held on sound.disks);
+        labelled = subst (λ (s : List Slot). All (IsLabelled s V) (map set_parts sets)) (sym slots) (each (IsLabelled block.slots V) (λ h own f. labelled_set block.slots [] V h own f) sets one kept.held found);
+        settled = subst (λ (s : List Slot). All (IsSetSettled s V) (map set_parts sets)) (sym slots) (each (IsSetSettled block.slots V) (λ h own f. settled_set block.slots [] V h own f) sets one kept.held found);
       }
     where
-      all_placed : (sets : List HeldSet) → length sets ≤ 1 → All (IsHeld block.slots V) sets → All IsOnDisks sets → All (IsPlaced block.slots V) (map set_parts sets)
-      all_placed [] one held on = all_none (IsPlaced block.slots V)
-      all_placed (h ∷ []) one held on = all_of (IsPlaced block.slots V) (set_parts h) (placed_set block.slots [] V h (of_all (IsHeld block.slots V) h held) (of_all IsOnDisks h on))
-      all_placed (h ∷ k ∷ l) one held on = absurd (omega (arith, one))
-
-      all_labelled : (sets : List HeldSet) → length sets ≤ 1 → All (IsHeld block.slots V) sets → All IsOnDisks sets → AreSound block.slots V sets → All (IsLabelled block.slots V) (map set_parts sets)
-      all_labelled [] one held on sound = all_none (IsLabelled block.slots V)
-      all_labelled (h ∷ []) one held on sound = all_of (IsLabelled block.slots V) (set_parts h) (labelled_set block.slots [] V h (of_all (IsHeld block.slots V) h held) (of_all IsOnDisks h on) sound)
-      all_labelled (h ∷ k ∷ l) one held on sound = absurd (omega (arith, one))
-
-      all_settled : (sets : List HeldSet) → length sets ≤ 1 → All (IsHeld block.slots V) sets → All IsOnDisks sets → AreSound block.slots V sets → All (IsSetSettled block.slots V) (map set_parts sets)
-      all_settled [] one held on sound = all_none (IsSetSettled block.slots V)
-      all_settled (h ∷ []) one held on sound = all_of (IsSetSettled block.slots V) (set_parts h) (settled_set block.slots [] V h (of_all (IsHeld block.slots V) h held) (of_all IsOnDisks h on) sound)
-      all_settled (h ∷ k ∷ l) one held on sound = absurd (omega (arith, one))
+      each : (P : SetDisks → Type 0) → ((h : HeldSet) → IsHeld block.slots V h → IsFindable block.slots h → P (set_parts h)) → (sets : List HeldSet) → length sets ≤ 1 → All (IsHeld block.slots V) sets → All (IsFindable block.slots) sets → All P (map set_parts sets)
+      each P p [] one held found = all_none P
+      each P p (h ∷ []) one held found = all_of P (set_parts h) (p h (of_all (IsHeld block.slots V) h held) (of_all (IsFindable block.slots) h found))
+      each P p (h ∷ k ∷ l) one held found = absurd (omega (arith, one))
 
 -- ---- a group that is found
 
@@ -274,6 +311,9 @@ module _ (state state' : Seen) (rest : state' ≡ record state { faults = state'
 
   state_same : no_faults state' ≡ no_faults state
   state_same = ap (λ (d : Seen). no_faults d) rest
+
+  told_same : IsTold state → IsTold state'
+  told_same told = ap (λ (d : Seen). length d.image) rest ∙ told ∙ sym (ap (λ (d : Seen). d.size) rest)
 
   holds_same : (block : GroupBlock) → HoldsBlock state block → HoldsBlock state' block
   holds_same block h = subst (λ (d : Seen). HoldsBlock d block) (sym rest) (record { told = h.told; label = h.label; holds = h.holds })
@@ -291,6 +331,18 @@ later_set V slot kind master (Some d) bitmap bitmap' over state state' t le le' 
     (subst (λ (l : List ℕ). NoneFell l (counts (V ++ (d ∷ bitmap' ∷ [])))) (sym (map-append (λ (x : Seen). x.faults) V (d ∷ bitmap ∷ [])))
     (subst (λ (l : List ℕ). NoneFell (counts V ++ (d.faults ∷ bitmap.faults ∷ [])) l) (sym (map-append (λ (x : Seen). x.faults) V (d ∷ bitmap' ∷ [])))
     (fell_append (counts V) (counts V) (d.faults ∷ bitmap.faults ∷ []) (d.faults ∷ bitmap'.faults ∷ []) (fell_same (counts V)) (fell_cons d.faults d.faults _ _ (omega arith) (fell_cons bitmap.faults bitmap'.faults _ _ le' fell_nil))))))
+
+-- disks of which some changed their counts of faults alone
+same_ends : (V l l' : List Seen) (state state' : Seen) → no_faults state' ≡ no_faults state → map no_faults l' ≡ map no_faults l → map no_faults (state' ∷ (V ++ l')) ≡ map no_faults (state ∷ ((V ++ l) ++ []))
+same_ends V l l' state state' first last =
+    ap (λ (x : Seen). x ∷ map no_faults (V ++ l')) first
+    ∙ ap (λ (m : List Seen). no_faults state ∷ m) (map-append no_faults V l' ∙ ap (λ (m : List Seen). map no_faults V ++ m) last ∙ sym (map-append no_faults V l))
+    ∙ ap (λ (m : List Seen). no_faults state ∷ map no_faults m) (sym (append-nil (V ++ l)))
+
+same_set : (V : List Seen) (slot : ℕ) (kind : Kind) (master : ℕ) (shadow : Option Seen) (bitmap bitmap' : Seen) (over : Option ℕ) (state state' : Seen) → no_faults state' ≡ no_faults state → no_faults bitmap' ≡ no_faults bitmap
+    → map no_faults (state' ∷ (V ++ (both_disks shadow bitmap' ++ []))) ≡ map no_faults (disks_in (the_parts state V (record { slot = slot; kind = kind; master = master; shadow = shadow; bitmap = bitmap; over = over } ∷ [])))
+same_set V slot kind master None bitmap bitmap' over state state' first last = same_ends V (bitmap ∷ []) (bitmap' ∷ []) state state' first (ap (λ (x : Seen). x ∷ []) last)
+same_set V slot kind master (Some d) bitmap bitmap' over state state' first last = same_ends V (d ∷ bitmap ∷ []) (d ∷ bitmap' ∷ []) state state' first (ap (λ (x : Seen). no_faults d ∷ x ∷ []) last)
 
 -- what was read of the state disk
 pub record IsRead (state : Seen) (block : GroupBlock) (state' : Seen) : Type 0 where
@@ -332,6 +384,9 @@ module _ (state state' : Seen) (block : GroupBlock) (V : List Seen) (read : IsRe
     group = ap (λ (b : GroupBlock). group_by b.slots b.note V []) (kept_same state state' read.rest);
     block = λ told. sym (kept_is state block (read.holds told));
     sound = λ told. record { holds = holds_same state state' read.rest block (read.holds told.state); disks = record { told = told.volumes; each = all_none (IsSoundSet block.slots) } };
+    told = λ told. record { state = told_same state state' read.rest told.state; volumes = told.volumes; sets = all_none IsSetTold };
+    shape = λ i. record { state = disk_shape (read.rest i); volumes = map disk_shape V; sets = [] };
+    same = same_ends V [] [] state state' (state_same state state' read.rest) refl;
   }
 
   module _ (s : SetDisks) (chunks : ChunkSet) (placed : IsPlaced block.slots V s) (o : OpensChunks block.slots s.slot s.kind s.shadow s.bitmap (size_of V s.master) chunks) where
@@ -355,6 +410,11 @@ module _ (state state' : Seen) (block : GroupBlock) (V : List Seen) (read : IsRe
       group = ap (λ (b : GroupBlock). group_by b.slots b.note V (found ∷ [])) (kept_same state state' read.rest) ∙ same_found (kept_on state).slots (kept_on state).note;
       block = λ told. sym (kept_is state block (read.holds told));
       sound = λ told. record { holds = holds_same state state' read.rest block (read.holds told.state); disks = record { told = told.volumes; each = sounds_opened block.slots V s chunks placed o (of_all IsSetTold s told.sets) } };
+      told = λ told. record { state = told_same state state' read.rest told.state; volumes = told.volumes; sets = all_of IsSetTold (set_parts found) (told_opened block.slots V s chunks placed o (of_all IsSetTold s told.sets)) };
+      shape = λ i. record { state = disk_shape (read.rest i); volumes = map disk_shape V; sets = shape_opened block.slots V s chunks placed o i ∷ [] };
+      same =
+          ap (λ (q : Option Seen). map no_faults (state' ∷ (V ++ (both_disks q chunks.areas.disk ++ [])))) (shadow_are block.slots V s chunks placed o)
+          ∙ same_set V s.slot s.kind s.master s.shadow s.bitmap chunks.areas.disk s.over state state' (state_same state state' read.rest) (ap (λ (d : Seen). no_faults d) o.disk);
     }
 
   found_is : (s : SetDisks) (h : HeldSet) → OpensSet block.slots V s h → record { slot = s.slot; master = s.master; chunks = h.chunks } ≡ h
@@ -387,11 +447,36 @@ abbrev pub the_disks : Seen → List Seen → List SetDisks → List Seen → Pa
 the_disks state V S O = record { state = state; volumes = V; sets = S; overs = O }
 
 module _ (state state' : Seen) (V : List Seen) (S : List SetDisks) (O : List Seen) (rest : state' ≡ record state { faults = state'.faults }) (later : state.faults ≤ state'.faults) where
+  abbrev P : Seen → PartDisks
+  P d = the_disks d V S O
+
+  told_parts : AreTold (P state) → AreTold (P state')
+  told_parts told = record { state = told_same state state' rest told.state; volumes = told.volumes; sets = told.sets }
+
+  whole_refused : AreWhole (P state) → AreWhole (P state')
+  whole_refused w = subst (λ (d : Seen). AreWhole (P d)) (sym rest) (record {
+    state = w.state;
+    label = w.label;
+    block = w.block;
+    placed = record { each = w.placed.each; one = w.placed.one; count = w.placed.count; none = w.placed.none };
+    labelled = w.labelled;
+    settled = w.settled;
+  })
+
+  group_refused : meaning_of_parts (P state') ≡ meaning_of_parts (P state)
+  group_refused = ap (λ (d : Seen). meaning_of_parts (P d)) rest
+
+  shape_refused : parts_shape (P state') ≡ parts_shape (P state)
+  shape_refused = ap (λ (d : Seen). parts_shape (P d)) rest
+
+  disks_refused : map no_faults (disks_in (P state')) ≡ map no_faults (disks_in (P state))
+  disks_refused = ap (λ (d : Seen). map no_faults (disks_in (P d))) rest
+
   same_parts : parts_no_faults (the_disks state' V S O) ≡ parts_no_faults (the_disks state V S O)
   same_parts = ap (λ (d : Seen). record { state = d; volumes = map no_faults V; sets = map set_no_faults S; overs = map no_faults O }) (state_same state state' rest)
 
   pub read_refused : (why : Why) → StateRefused state why state' → LoadRefused (record { state = state; volumes = V; sets = S; overs = O }) why (record { state = state'; volumes = V; sets = S; overs = O })
-  read_refused why w = record { parts = same_parts; later = fell_cons state.faults state'.faults _ _ later (fell_same _); cause = cause_of why w }
+  read_refused why w = record { parts = same_parts; later = fell_cons state.faults state'.faults _ _ later (fell_same _); cause = cause_of why w; told = told_parts; whole = whole_refused; group = group_refused; shape = shape_refused; same = disks_refused }
     where
       cause_of : (why : Why) → StateRefused state why state' → WhyNotFound (the_disks state V S O) why (the_disks state' V S O)
       cause_of (Size need have) w = absurd w
@@ -405,6 +490,11 @@ module _ (state state' : Seen) (V : List Seen) (S : List SetDisks) (O : List See
     parts = same_parts;
     later = fell_cons state.faults state'.faults _ _ later (fell_same _);
     cause = λ told. (inl (record { number = refl; broken = inr (inl (λ p. not_few (few p))) }), λ whole. not_few (few whole.placed));
+    told = told_parts;
+    whole = whole_refused;
+    group = group_refused;
+    shape = shape_refused;
+    same = disks_refused;
   }
     where
       few : ArePlaced (kept_on state).slots (the_disks state V S O) → AreFew (length V) (length S) (length O)
@@ -459,11 +549,62 @@ module _ (state state' : Seen) (block : GroupBlock) (V : List Seen) (read : IsRe
   cause_set NoMemory b w = tt
   cause_set Fault b w = (rose_refused V s.slot s.kind s.master s.over s.bitmap b state state' s.shadow w.0, unsteady V s.slot s.kind s.master s.over s.bitmap b state state' s.shadow w.1)
 
+  -- the set with another count of faults
+  abbrev counted_as : ℕ → SetDisks
+  counted_as f = record s { bitmap = record s.bitmap { faults = f } }
+
+  told_counted : (f : ℕ) → AreTold (the_parts state V (s ∷ [])) → AreTold (the_parts state' V (counted_as f ∷ []))
+  told_counted f told =
+      let one = of_all IsSetTold s told.sets in
+      record { state = told_same state state' read.rest told.state; volumes = told.volumes; sets = all_of IsSetTold (counted_as f) (record { shadow = one.shadow; bitmap = one.bitmap }) }
+
+  whole_counted : (f : ℕ) → AreWhole (the_parts state V (s ∷ [])) → AreWhole (the_parts state' V (counted_as f ∷ []))
+  unfolding live
+  whole_counted f w =
+      let slots = (kept_on state).slots in
+      let placed = of_all (IsPlaced slots V) s w.placed.each in
+      let labelled = of_all (IsLabelled slots V) s w.labelled in
+      let settled = of_all (IsSetSettled slots V) s w.settled in
+      subst (λ (d : Seen). AreWhole (the_parts d V (counted_as f ∷ []))) (sym read.rest) (record {
+        state = w.state;
+        label = w.label;
+        block = w.block;
+        placed = record {
+          each = all_of (IsPlaced slots V) (counted_as f) (record { slot = placed.slot; master = placed.master; there = placed.there; shadow = placed.shadow; bitmap = placed.bitmap; some = placed.some; whole = placed.whole; plain = placed.plain; fits = placed.fits });
+          one = w.placed.one;
+          count = w.placed.count;
+          none = w.placed.none;
+        };
+        labelled = all_of (IsLabelled slots V) (counted_as f) (record { label = labelled.label });
+        settled = all_of (IsSetSettled slots V) (counted_as f) (record { none_back = λ l. record { none = (settled.none_back l).none } });
+      })
+
+  group_counted : (f : ℕ) → meaning_of_parts (the_parts state' V (counted_as f ∷ [])) ≡ meaning_of_parts (the_parts state V (s ∷ []))
+  group_counted f =
+      let k = kept_on state in
+      ap (λ (d : Seen). meaning_of_parts (the_parts d V (counted_as f ∷ []))) read.rest
+      ∙ same_group k.slots k.note V s.slot s.kind s.master s.shadow s.bitmap f (size_of V s.master) false []
+
+  shape_counted : (f : ℕ) → parts_shape (the_parts state' V (counted_as f ∷ [])) ≡ parts_shape (the_parts state V (s ∷ []))
+  shape_counted f = ap (λ (d : Seen). parts_shape (the_parts d V (s ∷ []))) read.rest
+
+  disks_counted : (f : ℕ) → map no_faults (disks_in (the_parts state' V (counted_as f ∷ []))) ≡ map no_faults (disks_in (the_parts state V (s ∷ [])))
+  disks_counted f = ap (λ (d : Seen). map no_faults (disks_in (the_parts d V (counted_as f ∷ [])))) read.rest ∙ go s.shadow
+    where
+      go : (o : Option Seen) → map no_faults (disks_in (the_parts state V (record (counted_as f) { shadow = o } ∷ []))) ≡ map no_faults (disks_in (the_parts state V (record s { shadow = o } ∷ [])))
+      go None = ap (λ (m : List Seen). map no_faults (state ∷ m)) (append-nil (V ++ (record s.bitmap { faults = f } ∷ []))) ∙ same_ends V (s.bitmap ∷ []) (record s.bitmap { faults = f } ∷ []) state state refl refl
+      go (Some d) = ap (λ (m : List Seen). map no_faults (state ∷ m)) (append-nil (V ++ (d ∷ record s.bitmap { faults = f } ∷ []))) ∙ same_ends V (d ∷ s.bitmap ∷ []) (d ∷ record s.bitmap { faults = f } ∷ []) state state refl refl
+
   set_refused : (why : Why) (s' : SetDisks) → SetRefused block.slots V s why s' → LoadRefused (the_parts state V (s ∷ [])) why (the_parts state' V (s' ∷ []))
   set_refused why s' w = subst (λ (x : SetDisks). LoadRefused (the_parts state V (s ∷ [])) why (the_parts state' V (x ∷ []))) (sym w.is) (record {
     parts = ap (λ (d : Seen). record { state = d; volumes = map no_faults V; sets = set_no_faults s ∷ []; overs = [] }) (state_same state state' read.rest);
     later = later_refused V s.slot s.kind s.master s.over s.bitmap (record s.bitmap { faults = s'.bitmap.faults }) state state' s.shadow read.later w.later;
     cause = cause_set why (record s.bitmap { faults = s'.bitmap.faults }) (subst (λ (d : Seen). WhyNotOpened block.slots V s why d) (ap (λ (x : SetDisks). x.bitmap) w.is) w.cause);
+    told = told_counted s'.bitmap.faults;
+    whole = whole_counted s'.bitmap.faults;
+    group = group_counted s'.bitmap.faults;
+    shape = shape_counted s'.bitmap.faults;
+    same = disks_counted s'.bitmap.faults;
   })
 
   pub one_refused : (S S' : List SetDisks) (why : Why) → length S ≤ 1 → S ≡ s ∷ [] → RefusesOne block.slots V S why S' → LoadRefused (the_parts state V S) why (the_parts state' V S')

@@ -1,6 +1,8 @@
 -- How a set is placed, and opened on its disks or not.
 use Rattle.std.proofs.Common.{◌≡◌, ◌⊎◌, inl, inr, ℕ, zero, suc, ◌+◌, ◌<◌, ◌≤◌, Bool, true, false, not, cond, eqb, ◌||◌, ◌&&◌, nat_lt, List, [], ◌∷◌, length, map, filter, slice_index_or, Option, None, Some, is_some, ltb, IfNone, Result, Ok, Err, IfOk, IfErr, refl, sym, ◌∙◌, ap, subst, arith}
-use Rattle.std.specs.List.{range_with_len, list_all, position_or_len, position_from}
+use Rattle.std.specs.List.{range_with_len, list_all, position, position_or_len, position_from}
+use Rattle.std.proofs.lemmas.List.Quantifiers.{position-Some}
+use Rattle.avs_code.specs.Slot.{no_slot}
 use Rattle.std.proofs.lemmas.Iterator.Adapters.{position_from-zero}
 use Rattle.std.proofs.lemmas.Bool.{false≢true, cases_lt, eqb-true, eq-eqb, ne_eqb}
 use Rattle.std.proofs.lemmas.Bool.Decides.{nat_tests}
@@ -252,7 +254,7 @@ count_none : (p : ℕ → Bool) (first n : ℕ) → length (filter p (range_with
 count_none p first zero e c low high = absurd (omega (arith, low, high))
 count_none p first (suc n) e c low high = count_step p first n c (p first) refl e low (cases_lt first c) (λ e' lt. count_none p (first + 1) n e' c (omega (arith, lt)) (omega (arith, high)))
 
-none_count : (p : ℕ → Bool) (first n : ℕ) → ((c : ℕ) → first ≤ c → c < first + n → p c ≡ false) → length (filter p (range_with_len first n)) ≡ 0
+pub none_count : (p : ℕ → Bool) (first n : ℕ) → ((c : ℕ) → first ≤ c → c < first + n → p c ≡ false) → length (filter p (range_with_len first n)) ≡ 0
 none_count p first zero all = refl
 none_count p first (suc n) all =
     ap (λ (t : Bool). length (cond t (first ∷ filter p (range_with_len (first + 1) n)) (filter p (range_with_len (first + 1) n)))) (all first (omega arith) (omega arith))
@@ -309,3 +311,11 @@ from_none (x ∷ slots) i e = at_head (has_flag live_flag x) refl (λ e'. from_n
 
 pub all_live : (slots : List Slot) → cond (ltb (position_or_len (λ (s : Slot). not (has_flag live_flag s)) slots) (length slots)) (Some (position_or_len (λ (s : Slot). not (has_flag live_flag s)) slots)) None ≡ None → list_all (λ (s : Slot). has_flag live_flag s) slots ≡ true
 all_live slots e = from_none slots 0 (sym (position_from-zero (λ (s : Slot). not (has_flag live_flag s)) slots) ∙ e)
+
+-- the slots before the first that is not live are live
+pub live_before : (slots : List Slot) (place : ℕ) → position (λ (s : Slot). not (has_flag live_flag s)) slots ≡ Some place → (other : ℕ) → other < place → is_live slots other ≡ true
+live_before slots place is other lt = back (has_flag live_flag (slot_in slots other)) ((position-Some (λ (s : Slot). not (has_flag live_flag s)) slots place no_slot is).2 other lt)
+  where
+    back : (b : Bool) → not b ≡ false → b ≡ true
+    back true e = refl
+    back false e = cc

@@ -1,7 +1,6 @@
 -- What reads and writes of a shadow make of a group that holds one set.
-use Rattle.std.proofs.Common.{◌≡◌, ◌⊎◌, inl, inr, ℕ, ◌+◌, ◌/◌, ◌<◌, ◌≤◌, Bool, true, false, cond, eqb, ◌&&◌, IsTrue, All, List, [], ◌∷◌, length, map, set, find, slice_index, slice_index_or, Option, None, Some, is_some, Result, Ok, Err, refl, sym, ◌∙◌, ap, subst, arith}
+use Rattle.std.proofs.Common.{◌≡◌, inl, inr, ℕ, ◌+◌, ◌/◌, ◌<◌, ◌≤◌, Bool, true, false, cond, eqb, ◌&&◌, IsTrue, All, List, [], ◌∷◌, length, map, set, find, slice_index_or, Option, None, Some, is_some, Result, Ok, Err, refl, sym, ◌∙◌, ap, subst, arith}
 use Rattle.std.proofs.lemmas.Bool.{eqb-true, eq-eqb}
-use Rattle.std.proofs.lemmas.List.{length-set}
 use Rattle.avs_seg.specs.Image.{Image, block_at, blocks_of, range}
 use Rattle.avs_dev.specs.Seen.{Seen, IsTold}
 use Rattle.avs_code.specs.declared.slot_table.Slot.{Slot}
@@ -19,19 +18,23 @@ use Rattle.avs_ii.proofs.Quiet.{group_quiet, quiet_sound, sound_quiet}
 use Rattle.avs_ii.proofs.Forms.{set_state}
 use Rattle.avs_chunk.specs.Calls.{WritesShadow, ReadsShadow, chunks_end}
 use Rattle.avs_seg.specs.Segment.{first_segment}
-use Rattle.avs_model.specs.declared.shadow.Kind.{Kind}
-use Rattle.avs_model.specs.declared.shadow.Kind.TheVariants.{Ind, Dep}
 use Rattle.avs_ii.specs.Saved.{IsSettledInMemory}
 use Rattle.std.proofs.lemmas.List.Elements.{All-set}
 use Rattle.avs_ii.proofs.Masters.{settled_first, all_first}
 use Rattle.avs_ii.specs.Held.{HeldSet, IiDisks, is_live, set_at}
 use Rattle.avs_ii.specs.Meaning.{group_by, meaning, kept_on}
 use Rattle.avs_ii.specs.Sound.{HoldsBlock, IsSound, IsSoundSet}
-use Rattle.avs_ii.specs.Making.{kind_number}
 use Rattle.avs_ii.specs.Kept.{IsHeld, IsKept}
 use Rattle.avs_ii.specs.Calls.{NamesSet, WritesSet, ReadsSet, faulted, faults_of}
-use Rattle.avs_ii.proofs.Belows.{as_group, at_one, all_one, size_at, sizes_same}
+use Rattle.avs_ii.proofs.Belows.{as_group, at_one, all_one, size_at}
 use Rattle.avs_ii.proofs.Writes.{Ready, image_at, group_before, shadow_done, shadow_stopped, none_after}
+use Rattle.avs_ii.specs.Parts.{parts_of}
+use Rattle.avs_ii.specs.Making.{AreTold, AreWhole}
+use Rattle.avs_ii.specs.Sound.{HasNoneBack}
+use Rattle.avs_ii.proofs.Making.{of_all}
+use Rattle.avs_ii.proofs.Shapes.{KeepsSet, same_disk, shapes_at, keeps_written, keeps_disks, keeps_group, settled_same, same_steady}
+use Rattle.avs_ii.proofs.Loading.{IsFindable, findable}
+use Rattle.avs_ii.proofs.Keeping.{Keeps, set_keeps}
 use Rattle.avs_ii.proofs.Several.{fell_same}
 use Rattle.avs_ii.proofs.Groups.{three_later, three_rose, three_armed, three_used, three_are_steady}
 
@@ -149,29 +152,8 @@ module _ (state : Seen) (block : GroupBlock) (V : List Seen) (h : HeldSet) (kept
       there' : IsTrue (is_some c'.shadow)
       there' = subst (λ (b : Bool). IsTrue b) (sym w.stays.there) own.there
 
-      sizes : map (λ (d : Seen). d.size) V' ≡ map (λ (d : Seen). d.size) V
-      sizes = sizes_same V h.master m m' own.master disk w.disks.master.size
-
       pub shadow_kept : IsSettledInMemory c' → IsKept state block V' (h' ∷ [])
-      shadow_kept settled = record {
-        room = kept.room;
-        keeps = kept.keeps;
-        fits = kept.fits;
-        count = omega (arith, kept.count, length-set V h.master m');
-        held = all_one (IsHeld block.slots V') h' (record {
-          slot = own.slot;
-          master = omega (arith, own.master, length-set V h.master m');
-          there = there';
-          blocks = ap (λ (l : List ℕ). slice_index l h.master) sizes ∙ own.blocks ∙ sym w.stays.blocks;
-          whole = subst (λ (k : Kind). (k ≡ Ind) ⊎ (k ≡ Dep)) (sym w.stays.kind) own.whole;
-          area = λ l. w.stays.live_b ∙ own.area l;
-          first = λ no'. w.stays.live_b ∙ own.first no';
-          number = λ l. own.number l ∙ ap (λ (k : Kind). kind_number k) (sym w.stays.kind);
-          online = own.online;
-          settled = settled;
-          some = subst (λ (n : ℕ). 0 < n) (sym w.stays.blocks) own.some;
-        });
-      }
+      shadow_kept settled = keeps_group state block V V' h c' (keeps_written h c' m m' w.stays w.disks) (shapes_at V h.master m m' disk (same_disk m m' w.disks.master)) settled kept
 
       told_set' : All IsTold V → IsTold m' → All IsTold V'
       told_set' told now = All-set IsTold V h.master m' now told
@@ -184,6 +166,21 @@ module _ (state : Seen) (block : GroupBlock) (V : List Seen) (h : HeldSet) (kept
 
       as_meaning : (P : GroupState → GroupState → Type 0) → IsSound g → P (group_by block.slots block.note V (h ∷ [])) (group_by block.slots block.note V' (h' ∷ [])) → P (meaning g) (meaning g')
       as_meaning P sound p = subst (λ (x : GroupState). P x (meaning g')) (sym (meaning_before sound)) (subst (λ (x : GroupState). P (group_by block.slots block.note V (h ∷ [])) x) (sym (meaning_after sound)) p)
+
+    pub settled_after : {T E : Type 0} (r : Result T E) → WritesShadow h.chunks m at bytes r c' m' → IsSettledInMemory c'
+    settled_after (Ok x) w = settled_first h.chunks c' _ _ w.stays.blocks own.settled (all_first _ _ _ _ _ ordered w.memory)
+      where
+        ordered : first_segment at ≤ chunks_end at (length bytes / 512)
+        ordered = omega (arith, some)
+    settled_after (Err f) w = settled_first h.chunks c' _ _ w.stays.blocks own.settled w.memory_stopped
+
+    none_left : {T E : Type 0} (r : Result T E) → IsSoundSet block.slots h → IsTold m → WritesShadow h.chunks m at bytes r c' m' → HasNoneBack c'
+    none_left (Ok x) o told w = none_after h.chunks c' _ _ w.stays.blocks o.none_back (w.split o.known told)
+    none_left (Err f) o told w = none_after h.chunks c' _ _ w.stays.blocks o.none_back (w.stopped o.known told).saved.splits
+
+    shadow_keeps : {T E : Type 0} (r : Result T E) → WritesShadow h.chunks m at bytes r c' m' → Keeps g g'
+    shadow_keeps r w = set_keeps state block V h h.master m m' c' own.master disk (same_disk m m' w.disks.master) (keeps_written h c' m m' w.stays w.disks) (shadow_kept r w (settled_after r w))
+        (λ sound. record { label = λ l. w.stays.label (sound_set sound).known.bitmap (sound_set sound).label; none_back = λ l. none_left r (sound_set sound) (sound_told sound) w })
 
     pub writes_set : {T E : Type 0} (r : Result T E) → WritesShadow h.chunks m at bytes r c' m' → WritesSet g slot at bytes (faulted r) g'
     writes_set (Ok x) w = record {
@@ -210,6 +207,10 @@ module _ (state : Seen) (block : GroupBlock) (V : List Seen) (h : HeldSet) (kept
           }));
         };
       };
+      shape = (shadow_keeps (Ok x) w).shape;
+      still_steady = same_steady g g' (shadow_keeps (Ok x) w).shape;
+      told = (shadow_keeps (Ok x) w).told;
+      whole = (shadow_keeps (Ok x) w).whole;
     }
     writes_set (Err f) w = record {
       names = names_fault (set_at g slot) h found;
@@ -224,14 +225,11 @@ module _ (state : Seen) (block : GroupBlock) (V : List Seen) (h : HeldSet) (kept
       stopped = λ sound e. as_meaning (Err f) w (λ a b. StoppedIn a (shadow_write_stages slot at (blocks_of bytes)) b) sound (subst (λ (k : ℕ). StoppedIn (group_by block.slots block.note V (h ∷ [])) (shadow_write_stages k at (blocks_of bytes)) (group_by block.slots block.note V' (h' ∷ []))) is_slot
           (shadow_stopped block.slots block.note V h m ready (sound_set sound).none_back (sound_set sound).known (sound_told sound) c' m' at bytes some inside f w));
       sound = λ sound. tt;
+      shape = (shadow_keeps (Err f) w).shape;
+      still_steady = same_steady g g' (shadow_keeps (Err f) w).shape;
+      told = (shadow_keeps (Err f) w).told;
+      whole = (shadow_keeps (Err f) w).whole;
     }
-
-    pub settled_after : {T E : Type 0} (r : Result T E) → WritesShadow h.chunks m at bytes r c' m' → IsSettledInMemory c'
-    settled_after (Ok x) w = settled_first h.chunks c' _ _ w.stays.blocks own.settled (all_first _ _ _ _ _ ordered w.memory)
-      where
-        ordered : first_segment at ≤ chunks_end at (length bytes / 512)
-        ordered = omega (arith, some)
-    settled_after (Err f) w = settled_first h.chunks c' _ _ w.stays.blocks own.settled w.memory_stopped
 
   -- ---- a read
 
@@ -283,26 +281,18 @@ module _ (state : Seen) (block : GroupBlock) (V : List Seen) (h : HeldSet) (kept
           ∙ ap (λ (b : Bool). option_map_or (λ (x : ShadowState). x.image) (cond b (Some (set_state block.slots V h)) None) []) (eq-eqb h.slot slot is_slot)
           ∙ ap (λ (i : Image). shadow_image h.chunks i) (image_at V h.master m own.master disk)
 
+      rest_is : c' ≡ record h.chunks { shadow = c'.shadow; areas = record h.chunks.areas { disk = c'.areas.disk } }
+      rest_is = w.rest ∙ ap (λ (d : Seen). record h.chunks { shadow = c'.shadow; areas = record h.chunks.areas { disk = d } }) (sym (ap (λ (c : ChunkSet). c.areas.disk) w.rest))
+
+      keeps_set : KeepsSet h c'
+      keeps_set = keeps_disks h c' rest_is w.there (same_disk (disk_of h.chunks.shadow) (disk_of c'.shadow) w.disks.shadow) (same_disk h.chunks.areas.disk c'.areas.disk w.disks.bitmap)
+
       pub read_set_kept : IsKept state block (set V h.master m') (record h { chunks = c' } ∷ [])
-      read_set_kept = record {
-        room = kept.room;
-        keeps = kept.keeps;
-        fits = kept.fits;
-        count = omega (arith, kept.count, length-set V h.master m');
-        held = all_one (IsHeld block.slots (set V h.master m')) (record h { chunks = c' }) (record {
-          slot = own.slot;
-          master = omega (arith, own.master, length-set V h.master m');
-          there = read_there;
-          blocks = ap (λ (l : List ℕ). slice_index l h.master) (sizes_same V h.master m m' own.master disk w.disks.master.size) ∙ own.blocks ∙ sym (ap (λ (c : ChunkSet). c.blocks) w.rest);
-          whole = subst (λ (k : Kind). (k ≡ Ind) ⊎ (k ≡ Dep)) (sym (ap (λ (c : ChunkSet). c.kind) w.rest)) own.whole;
-          area = λ l. ap (λ (c : ChunkSet). c.areas.live_b) w.rest ∙ own.area l;
-          first = λ no'. ap (λ (c : ChunkSet). c.areas.live_b) w.rest ∙ own.first no';
-          number = λ l. own.number l ∙ ap (λ (c : ChunkSet). kind_number c.kind) (sym w.rest);
-          online = own.online;
-          settled = subst (λ (c : ChunkSet). IsSettledInMemory c) (sym w.rest) (record { none = own.settled.none });
-          some = subst (λ (n : ℕ). 0 < n) (sym (ap (λ (c : ChunkSet). c.blocks) w.rest)) own.some;
-        });
-      }
+      read_set_kept = keeps_group state block V (set V h.master m') h c' keeps_set (shapes_at V h.master m m' disk (same_disk m m' w.disks.master)) (settled_same h c' rest_is own.settled) kept
+
+      read_keeps : Keeps g read_group
+      read_keeps = set_keeps state block V h h.master m m' c' own.master disk (same_disk m m' w.disks.master) keeps_set read_set_kept
+          (λ sound. let o = of_all (IsFindable block.slots) (record h { chunks = c' }) (findable block.slots (set V h.master m') (record h { chunks = c' } ∷ []) (omega arith) (read_sound sound).disks) in o)
 
     pub reads_set : {T E : Type 0} (r : Result T E) → ReadsShadow h.chunks m at out r c' m' → ReadsSet g slot out at (faulted r) read_group
     reads_set (Ok x) w = record {
@@ -317,6 +307,10 @@ module _ (state : Seen) (block : GroupBlock) (V : List Seen) (h : HeldSet) (kept
       group = let b = kept_on state in read_same (Ok x) w b.note b.slots;
       sound = read_sound (Ok x) w;
       shows = λ sound. w.shows (sound_set sound).known (sound_told sound) ∙ ap (λ (i : Image). range i at (length out / 512)) (sym (image_is (Ok x) w sound));
+      shape = (read_keeps (Ok x) w).shape;
+      still_steady = same_steady g read_group (read_keeps (Ok x) w).shape;
+      told = (read_keeps (Ok x) w).told;
+      whole = (read_keeps (Ok x) w).whole;
     }
     reads_set (Err f) w = record {
       names = names_fault (set_at g slot) h found;
@@ -330,12 +324,16 @@ module _ (state : Seen) (block : GroupBlock) (V : List Seen) (h : HeldSet) (kept
       group = let b = kept_on state in read_same (Err f) w b.note b.slots;
       sound = read_sound (Err f) w;
       shows = λ sound. tt;
+      shape = (read_keeps (Err f) w).shape;
+      still_steady = same_steady g read_group (read_keeps (Err f) w).shape;
+      told = (read_keeps (Err f) w).told;
+      whole = (read_keeps (Err f) w).whole;
     }
 
 -- ---- no set is named
 
-pub writes_none : {T : Type 0} (g : IiDisks) (slot at : ℕ) (bytes : List ℕ) → set_at g slot ≡ None → WritesSet {T = T} g slot at bytes (Err NoSet) g
-writes_none g slot at bytes none = record {
+pub writes_none : {T : Type 0} (g : IiDisks) (slot at : ℕ) (bytes : List ℕ) → (IsSound g → AreTold (parts_of g) → AreWhole (parts_of g)) → set_at g slot ≡ None → WritesSet {T = T} g slot at bytes (Err NoSet) g
+writes_none g slot at bytes whole none = record {
   names = names_none (set_at g slot) none;
   no_set = λ e. refl;
   state = refl;
@@ -347,10 +345,14 @@ writes_none g slot at bytes none = record {
   done = λ sound. tt;
   stopped = λ sound e. cc;
   sound = λ sound. tt;
+  shape = refl;
+  still_steady = refl;
+  told = λ told. told;
+  whole = whole;
 }
 
-pub reads_none : {T : Type 0} (g : IiDisks) (slot at : ℕ) (out : List ℕ) → set_at g slot ≡ None → ReadsSet {T = T} g slot out at (Err NoSet) g
-reads_none g slot at out none = record {
+pub reads_none : {T : Type 0} (g : IiDisks) (slot at : ℕ) (out : List ℕ) → (IsSound g → AreTold (parts_of g) → AreWhole (parts_of g)) → set_at g slot ≡ None → ReadsSet {T = T} g slot out at (Err NoSet) g
+reads_none g slot at out whole none = record {
   names = names_none (set_at g slot) none;
   no_set = λ e. refl;
   state = refl;
@@ -362,4 +364,8 @@ reads_none g slot at out none = record {
   group = refl;
   sound = λ sound. sound;
   shows = λ sound. tt;
+  shape = refl;
+  still_steady = refl;
+  told = λ told. told;
+  whole = whole;
 }

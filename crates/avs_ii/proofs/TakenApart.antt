@@ -1,22 +1,26 @@
 -- A set that is made or given up.
-use Rattle.std.proofs.Common.{◌≡◌, ◌⊎◌, inl, inr, ℕ, ◌<◌, Bool, false, not, cond, eqb, ◌&&◌, IsTrue, All, List, [], ◌∷◌, length, map, slice_index_or, Option, None, Some, is_some, refl, sym, ◌∙◌, ap, subst, arith}
+use Rattle.std.proofs.Common.{◌≡◌, ◌⊎◌, inl, inr, ℕ, ◌<◌, Bool, false, not, cond, eqb, ◌&&◌, IsTrue, All, List, [], ◌∷◌, ◌++◌, length, map, slice_index_or, Option, None, Some, is_some, refl, sym, ◌∙◌, ap, subst, arith}
 use Rattle.std.proofs.lemmas.Bool.{false≢true, eq-eqb, ne_eqb}
-use Rattle.std.proofs.lemmas.List.{get_or-map}
+use Rattle.std.proofs.lemmas.List.{append-nil, get_or-map}
 use Rattle.avs_dev.specs.Seen.{Seen, IsTold}
 use Rattle.avs_dev.specs.declared.back.Why.{Why}
 use Rattle.avs_dev.specs.declared.back.Why.TheVariants as why
 use Rattle.avs_code.specs.declared.group_blocks.GroupBlock.{GroupBlock}
 use Rattle.avs_model.specs.declared.answer.Refusal.{Refusal}
-use Rattle.avs_model.specs.declared.answer.Refusal.TheVariants.{Down, NoVolume, NoSet, NoGroup, Length, WrongState, Exists, Range, Size, Limit, NoMemory, Fault}
+use Rattle.avs_model.specs.declared.answer.Refusal.TheVariants.{Down, NoVolume, NoSet, NoGroup, Length, WrongState, Exists, Range, Size, Limit, NoMemory, Fault, BusyVolume, NoContents, BadRecord}
 use Rattle.avs_model.specs.declared.shadow.Kind.{Kind}
 use Rattle.avs_model.specs.declared.shadow.Kind.TheVariants.{Ind, Dep, Compact}
-use Rattle.avs_chunk.specs.States.{on_master, on_shadow}
-use Rattle.avs_chunk.specs.ChunkSet.{ChunkSet, disk_of}
-use Rattle.avs_chunk.specs.Making.{Makes, MakeRefused, Fits}
-use Rattle.avs_ii.specs.Held.{HeldSet, IiDisks, is_live, pending_at}
+use Rattle.avs_seg.specs.Segment.{seg_count}
+use Rattle.avs_chunk.specs.States.{on_master, on_shadow, blocks_for}
+use Rattle.avs_chunk.specs.ChunkSet.{ChunkSet, disk_of, both_disks}
+use Rattle.avs_chunk.specs.Making.{Makes, MakeRefused, Fits, areas_on}
+use Rattle.avs_ii.specs.Held.{HeldSet, IiDisks, disks_of, is_live, pending_at}
 use Rattle.avs_ii.specs.Meaning.{meaning}
 use Rattle.avs_ii.specs.Sound.{IsSound, IsFresh, IsSoundSet}
 use Rattle.avs_ii.specs.Kept.{IsHeld, IsKept}
+use Rattle.avs_ii.specs.Opening.{IsOnDisks}
+use Rattle.avs_ii.specs.Parts.{set_parts}
+use Rattle.avs_ii.specs.Making.{IsSetTold}
 use Rattle.avs_ii.specs.Calls.{Enables, EnableRefused, GivesUp, IsFree, IsLimit, IsSizeOf, limit_at, blocks_at, refusal_of}
 use Rattle.avs_ii.proofs.Forms.{group_none, group_pending}
 use Rattle.avs_ii.proofs.Making.{the_group, pending_one, meaning_by, all_none, all_of}
@@ -46,6 +50,12 @@ found_own state block V h pending =
     ∙ ap (λ (t : Bool). cond (not t && eqb h.slot h.slot) (Some h) None) pending
     ∙ ap (λ (t : Bool). cond t (Some h) None) (eq-eqb h.slot h.slot refl)
 
+-- the disks of a set stand behind the others
+disks_more : (state : Seen) (block : GroupBlock) (V : List Seen) (h : HeldSet) (shadow : Seen) → h.chunks.shadow ≡ Some shadow → disks_of (the_group state block V (h ∷ [])) ≡ disks_of (the_group state block V []) ++ shadow ∷ h.chunks.areas.disk ∷ []
+disks_more state block V h shadow is =
+    ap (λ (o : Option Seen). state ∷ V ++ (both_disks o h.chunks.areas.disk ++ [])) is
+    ∙ ap (λ (l : List Seen). state ∷ l ++ shadow ∷ h.chunks.areas.disk ∷ []) (sym (append-nil V))
+
 -- ---- a set is given up
 
 pub gives_up : (state : Seen) (block : GroupBlock) (V : List Seen) (h : HeldSet) (shadow bitmap : Seen) → is_live block.slots h.slot ≡ false → h.chunks.shadow ≡ Some shadow → bitmap ≡ h.chunks.areas.disk → GivesUp (the_group state block V (h ∷ [])) h shadow bitmap (the_group state block V [])
@@ -60,6 +70,8 @@ gives_up state block V h shadow bitmap pending back back_too = record {
   is = sym (ap (λ (t : Bool). the_group state block V (cond (not t) (h ∷ []) [])) (eq-eqb h.slot h.slot refl));
   group = λ sound. sym (same_meaning state block V h pending (sound_without state block V h sound));
   sound = λ sound. sound_without state block V h sound;
+  told = λ told. record { state = told.state; volumes = told.volumes; sets = all_none IsSetTold };
+  disks = disks_more state block V h shadow back ∙ ap (λ (d : Seen). disks_of (the_group state block V []) ++ shadow ∷ d ∷ []) (sym back_too);
 }
 
 pub kept_without : (state : Seen) (block : GroupBlock) (V : List Seen) (sets : List HeldSet) → IsKept state block V sets → IsKept state block V []
@@ -72,7 +84,7 @@ whole_of g Ind e = inl refl
 whole_of g Dep e = inr refl
 whole_of g Compact e = absurd (false≢true (sym (ap is_some e)))
 
-module _ (state : Seen) (block : GroupBlock) (V : List Seen) (kind : Kind) (master slot : ℕ) (shadow bitmap : Seen) (chunks : ChunkSet) (free : IsFree (the_group state block V []) slot) (within : limit_at (the_group state block V []) kind ≡ None) (makes : Makes kind shadow bitmap (blocks_at (the_group state block V []) master) chunks) where
+module _ (state : Seen) (block : GroupBlock) (V : List Seen) (kind : Kind) (master slot : ℕ) (shadow bitmap : Seen) (chunks : ChunkSet) (free : IsFree (the_group state block V []) slot) (least : (other : ℕ) → other < slot → IsFree (the_group state block V []) other → ⊥) (within : limit_at (the_group state block V []) kind ≡ None) (makes : Makes kind shadow bitmap (blocks_at (the_group state block V []) master) chunks) where
   abbrev made : HeldSet
   made = record { slot = slot; master = master; chunks = chunks }
 
@@ -95,10 +107,26 @@ module _ (state : Seen) (block : GroupBlock) (V : List Seen) (kind : Kind) (mast
     is = refl;
     within = within;
     free = free;
+    least = least;
     pending = found_own state block V made free.not_live;
     fresh = fresh_made;
     group = λ sound. same_meaning state block V made free.not_live sound;
     sound = λ sound. sound_with state block V made free.not_live sound;
+    told = λ told told_shadow told_bitmap. record {
+      state = told.state;
+      volumes = told.volumes;
+      sets = all_of IsSetTold (set_parts made) (record { shadow = (fresh_made told_shadow told_bitmap).known.shadow; bitmap = makes.disk.told told_bitmap });
+    };
+    disks = disks_more state block V made shadow makes.shadow_same;
+  }
+
+  on_made : IsOnDisks made
+  on_made = record {
+    fits = record {
+      shadow = λ d is. omega (arith, makes.fits.shadow d (sym makes.shadow_same ∙ is), makes.blocks_is);
+      bitmap = omega (arith, makes.fits.bitmap, makes.disk.size, ap (λ (n : ℕ). blocks_for (seg_count n)) makes.blocks_is);
+    };
+    areas = ap (λ (s : ChunkSet). s.areas) makes.is ∙ (λ i. areas_on chunks.areas.disk (sym makes.blocks_is i) (sym (ap (λ (s : ChunkSet). s.areas.live_b) makes.is) i));
   }
 
   pub kept_with : 0 < blocks_at (the_group state block V []) master → master < length V → IsKept state block V [] → IsKept state block V (record { slot = slot; master = master; chunks = chunks } ∷ [])
@@ -119,6 +147,7 @@ module _ (state : Seen) (block : GroupBlock) (V : List Seen) (kind : Kind) (mast
       online = λ live. absurd (false≢true (sym free.not_live ∙ live));
       settled = record { none = λ c lt is. never (sym (makes.states c lt) ∙ is) };
       some = omega (arith, some, ap (λ (s : ChunkSet). s.blocks) makes.is);
+      on = on_made;
     });
   }
     where
@@ -140,6 +169,9 @@ small_refused g kind master shadow bitmap (Range n) w = absurd w
 small_refused g kind master shadow bitmap (Limit n) w = absurd w
 small_refused g kind master shadow bitmap NoMemory w = absurd w
 small_refused g kind master shadow bitmap Fault w = absurd w
+small_refused g kind master shadow bitmap (BusyVolume role) w = absurd w
+small_refused g kind master shadow bitmap NoContents w = absurd w
+small_refused g kind master shadow bitmap (BadRecord field) w = absurd w
 
 pub limit_refused : (g : IiDisks) (kind : Kind) (master : ℕ) (shadow bitmap : Seen) (refused : Refusal) → Fits (Some shadow) bitmap (blocks_at g master) → IsLimit g kind refused → EnableRefused g kind master shadow bitmap refused shadow bitmap
 limit_refused g kind master shadow bitmap (Limit n) fits w = (fits, (w, (refl, refl)))
@@ -154,6 +186,9 @@ limit_refused g kind master shadow bitmap (Range n) fits w = absurd w
 limit_refused g kind master shadow bitmap (Size need have) fits w = absurd w
 limit_refused g kind master shadow bitmap NoMemory fits w = absurd w
 limit_refused g kind master shadow bitmap Fault fits w = absurd w
+limit_refused g kind master shadow bitmap (BusyVolume role) fits w = absurd w
+limit_refused g kind master shadow bitmap NoContents fits w = absurd w
+limit_refused g kind master shadow bitmap (BadRecord field) fits w = absurd w
 
 pub make_refused : (g : IiDisks) (kind : Kind) (master : ℕ) (shadow bitmap : Seen) (y : Why) (shadow' bitmap' : Seen) → limit_at g kind ≡ None → MakeRefused shadow bitmap (blocks_at g master) y shadow' bitmap' → EnableRefused g kind master shadow bitmap (refusal_of y) shadow' bitmap'
 make_refused g kind master shadow bitmap (why.Size need have) shadow' bitmap' within w = w

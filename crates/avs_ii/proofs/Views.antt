@@ -11,6 +11,8 @@ use Rattle.avs_ii.specs.Kept.{IsHeld, IsKept, HasRoom}
 use Rattle.avs_ii.specs.AsBelow.{below_of, rest_of, WroteRest}
 use Rattle.avs_chunk.specs.ChunkSet.{ChunkSet}
 use Rattle.avs_ii.specs.Saved.{WritesMaster}
+use Rattle.avs_ii.proofs.Making.{at_most_one}
+use Rattle.avs_ii.proofs.Keeping.{Keeps, keeps_read, keeps_write, volume_keeps, master_keeps}
 use Rattle.avs_ii.proofs.Belows.{as_group, at_one, size_at, size_is, master_kept, master_writes, master_wrote, v_kept, v_writes, v_reads, v_reads_rest, v_reads_kept, none_wrote, one_wrote}
 
 module _ {A : Type 0} (seen : A → Seen) (items : List A) (vol : ℕ) (was : A) (value : was ≡ slice_index_or items vol was) where
@@ -106,6 +108,12 @@ module _ {A D : Type 0} (seen : A → Seen) (state : Seen) (block : GroupBlock) 
             (subst (λ (x : IiDisks). WroteRest (rest_of (as_group state block (map seen items) (held_of h ∷ []))) vol at bytes (is_ok result) (rest_of x)) (after_as new (record (held_of h) { chunks = c' } ∷ []))
             (master_wrote state block (map seen items) (held_of h) kept_h vol (seen was) there disk test at bytes c' (seen new) w.stays w.disks w.settled set_some set_inside result w))
 
+        pub exit_keeps : Keeps g (as_group state block (map seen (set items vol new)) (record (held_of h) { chunks = c' } ∷ []))
+        exit_keeps =
+            subst (λ (x : IiDisks). Keeps x (as_group state block (map seen (set items vol new)) (record (held_of h) { chunks = c' } ∷ []))) view_h
+            (subst (λ (x : IiDisks). Keeps (as_group state block (map seen items) (held_of h ∷ [])) x) (after_as new (record (held_of h) { chunks = c' } ∷ []))
+            (master_keeps state block (map seen items) (held_of h) kept_h vol (seen was) there disk test at bytes c' (seen new) result w))
+
     module _ (test : (eqb h.master vol && is_live block.slots h.slot) ≡ false) {T E : Type 0} (result : Result T E) (new : A) (w : Writes (seen was) at bytes result (seen new)) where
       pub other_wrote : WroteRest (rest_of g) vol at bytes (is_ok result) (rest_of (as_group state block (map seen (set items vol new)) (held_of h ∷ [])))
       other_wrote =
@@ -123,6 +131,12 @@ module _ {A D : Type 0} (seen : A → Seen) (state : Seen) (block : GroupBlock) 
         subst (λ (x : IiDisks). WritesBelow (below_of x) vol at bytes result (below_of (as_group state block (map seen (set items vol new)) sets))) (ap (λ (l : List HeldSet). as_group state block (map seen items) l) (sym is) ∙ view)
         (subst (λ (x : IiDisks). WritesBelow (below_of (as_group state block (map seen items) sets)) vol at bytes result (below_of x)) (after_as new sets)
         (v_writes state block (map seen items) sets vol (seen was) (seen new) there disk at bytes result w))
+
+    pub plain_keeps : (sets : List HeldSet) → sets_of o ≡ sets → IsKept state block (map seen items) sets → Keeps g (as_group state block (map seen (set items vol new)) sets)
+    plain_keeps sets is kept =
+        subst (λ (x : IiDisks). Keeps x (as_group state block (map seen (set items vol new)) sets)) (ap (λ (l : List HeldSet). as_group state block (map seen items) l) (sym is) ∙ view)
+        (subst (λ (x : IiDisks). Keeps (as_group state block (map seen items) sets) x) (after_as new sets)
+        (volume_keeps state block (map seen items) sets vol (seen was) (seen new) there disk (keeps_write (seen was) (seen new) at bytes result w) (subst (λ (l : List HeldSet). length l ≤ 1) is (at_most_one o)) kept))
 
     pub none_wrote_as : o ≡ None → WroteRest (rest_of g) vol at bytes (is_ok result) (rest_of (as_group state block (map seen (set items vol new)) (sets_of o)))
     none_wrote_as is =
@@ -154,6 +168,12 @@ module _ {A D : Type 0} (seen : A → Seen) (state : Seen) (block : GroupBlock) 
 
   pub read_rest : rest_of (as_group state block (map seen (set items vol new)) (sets_of o)) ≡ rest_of g
   read_rest = ap rest_of (sym now_r) ∙ v_reads_rest state block (map seen items) (sets_of o) vol (seen was) (seen new) there_r disk_r at out result w ∙ ap rest_of view
+
+  pub read_keeps : IsKept state block (map seen items) (sets_of o) → Keeps g (as_group state block (map seen (set items vol new)) (sets_of o))
+  read_keeps kept =
+      subst (λ (x : IiDisks). Keeps x (as_group state block (map seen (set items vol new)) (sets_of o))) view
+      (subst (λ (x : IiDisks). Keeps (as_group state block (map seen items) (sets_of o)) x) now_r
+      (volume_keeps state block (map seen items) (sets_of o) vol (seen was) (seen new) there_r disk_r (keeps_read (seen was) (seen new) at out result w) (at_most_one o) kept))
 
   pub read_kept : IsKept state block (map seen items) (sets_of o) → IsKept state block (map seen (set items vol new)) (sets_of o)
   read_kept kept = subst (λ (l : List Seen). IsKept state block l (sets_of o)) (sym (set_as seen items vol was value new)) (v_reads_kept state block (map seen items) (sets_of o) vol (seen was) (seen new) there_r disk_r at out result w kept)

@@ -1,10 +1,9 @@
 -- A group as volumes to write to, and what one write makes of the rest of it.
-use Rattle.std.specs.Prelude.{◌≡◌, ℕ, ◌/◌, ◌==◌, ◌&&◌, Bool, true, false, if◌then◌else◌, List, [], length, map, Option, None, Some, slice_set, slice_index}
+use Rattle.std.specs.Prelude.{◌≡◌, ℕ, ◌/◌, ◌==◌, ◌&&◌, Bool, true, false, if◌then◌else◌, List, [], length, map, Option, None, Some}
 use Rattle.std.specs.Option.{option_map}
 use Rattle.std.specs.Cmp.Lexicographic.{pointwise}
 use Rattle.avs_seg.specs.Image.{blocks_of}
 use Rattle.avs_dev.specs.Seen.{Seen}
-use Rattle.avs_dev.specs.Memory.{counted}
 use Rattle.avs_dev.specs.Below.{BelowSeen}
 use Rattle.avs_code.specs.declared.slot_table.Slot.{Slot}
 use Rattle.avs_model.specs.Shadows.{GroupState, GroupStage, after_stages, StoppedIn, volume_write_stages}
@@ -12,7 +11,7 @@ use Rattle.avs_chunk.specs.ChunkSet.{ChunkSet}
 use Rattle.avs_ii.specs.Held.{HeldSet, IiDisks, pending_in}
 use Rattle.avs_ii.specs.Meaning.{group_by, kept_on}
 use Rattle.avs_ii.specs.Sound.{AreSound}
-use Rattle.avs_ii.specs.Calls.{faults_of, armed_of, are_steady}
+use Rattle.avs_ii.specs.Calls.{faults_of, armed_of, are_steady, written_on, written_after}
 
 -- whether two slots are the same
 abbrev pub same_slot : Slot → Slot → Bool
@@ -61,14 +60,6 @@ group_of rest = group_by rest.slots [] rest.volumes rest.sets
 abbrev pub IsSoundRest : IiRest → Type 0
 IsSoundRest rest = AreSound rest.slots rest.volumes rest.sets
 
--- the blocks written on each volume
-abbrev pub written_on : IiRest → List ℕ
-written_on rest = map (λ d. d.written) rest.volumes
-
--- the blocks written on each volume after so many more on one
-abbrev pub written_after : IiRest → ℕ → ℕ → List ℕ
-written_after rest volume count = slice_set (written_on rest) volume (counted (slice_index (written_on rest) volume) count)
-
 -- the stages of a write to a volume
 abbrev pub write_stages : IiRest → ℕ → ℕ → List ℕ → List GroupStage
 write_stages rest volume at bytes = volume_write_stages (group_of rest).sets volume at (blocks_of bytes)
@@ -80,4 +71,4 @@ pub record WroteRest (old : IiRest) (volume at : ℕ) (bytes : List ℕ) (ok : B
   pub done : IsSoundRest old → ok ≡ true → group_of new ≡ after_stages (group_of old) (write_stages old volume at bytes)
   pub stopped : IsSoundRest old → ok ≡ false → StoppedIn (group_of old) (write_stages old volume at bytes) (group_of new)
   pub sound : IsSoundRest old → ok ≡ true → IsSoundRest new
-  pub counts : ok ≡ true → written_on new ≡ written_after old volume (length bytes / 512)
+  pub counts : ok ≡ true → written_on new.volumes ≡ written_after old.volumes volume (length bytes / 512)

@@ -1,26 +1,29 @@
 -- What each call on a group makes of it.
-use Rattle.std.specs.Prelude.{◌≡◌, ◌⊎◌, ℕ, ◌+◌, ◌*◌, ◌/◌, ◌^◌, ◌%◌, ◌<◌, ◌≤◌, ◌==◌, Bool, true, false, not, IsTrue, if◌then◌else◌, List, [], ◌∷◌, ◌++◌, length, map, filter, Option, None, Some, Result, Ok, Err, OnOk, OnErr, IfErr, slice_set, slice_get, slice_index_or}
+use Rattle.std.specs.Prelude.{◌≡◌, ◌⊎◌, ℕ, ◌+◌, ◌*◌, ◌/◌, ◌^◌, ◌%◌, ◌<◌, ◌≤◌, ◌==◌, Bool, true, false, not, IsTrue, if◌then◌else◌, List, [], ◌∷◌, ◌++◌, length, map, filter, Option, None, Some, Result, Ok, Err, OnOk, OnErr, IsOk, IfErr, slice_set, slice_get, slice_index, slice_index_or}
 use Rattle.std.specs.List.{list_any, list_all}
 use Rattle.std.specs.Option.{option_map, option_map_or}
 use Rattle.avs_seg.specs.Image.{blocks_of, range}
 use Rattle.avs_dev.specs.Devices.{NoneFell, OneRose, UsesOneTear}
 use Rattle.avs_dev.specs.Seen.{Seen, IsTold, Writes}
+use Rattle.avs_dev.specs.Memory.{counted}
 use Rattle.avs_dev.specs.declared.back.Why.{Why}
 use Rattle.avs_dev.specs.declared.back.Why.TheVariants as why
 use Rattle.avs_code.specs.GroupBlock.{group_block}
 use Rattle.avs_code.specs.declared.slot_table.Slot.{Slot}
 use Rattle.avs_code.specs.declared.group_blocks.GroupBlock.{GroupBlock}
-use Rattle.avs_model.specs.Shadows.{slot_count, image_at, after_enabling, after_stages, StoppedIn, shadow_write_stages}
+use Rattle.avs_model.specs.Shadows.{slot_count, image_at, volume_image, after_enabling, after_stages, StoppedIn, shadow_write_stages, volume_write_stages}
 use Rattle.avs_model.specs.declared.answer.Refusal.{Refusal}
 use Rattle.avs_model.specs.declared.answer.Refusal.TheVariants.{NoSet, Size, Limit, NoMemory, Fault}
 use Rattle.avs_model.specs.declared.shadow.Kind.{Kind}
 use Rattle.avs_model.specs.declared.shadow.Kind.TheVariants.{Ind, Dep, Compact}
 use Rattle.avs_chunk.specs.ChunkSet.{ChunkSet}
 use Rattle.avs_chunk.specs.Making.{Makes, IsSmall, Fits, FailsFormat}
-use Rattle.avs_ii.specs.Held.{HeldSet, IiDisks, is_live, has_flag, live, set_at, pending_at, volume_at, disks_of}
+use Rattle.avs_ii.specs.Held.{HeldSet, IiDisks, is_live, has_flag, live, set_at, pending_in, pending_at, volume_at, disks_of}
 use Rattle.avs_ii.specs.Meaning.{meaning}
 use Rattle.avs_ii.specs.Sound.{IsSound, IsFresh}
-use Rattle.avs_ii.specs.Making.{kind_number}
+use Rattle.avs_ii.specs.Shape.{shape_of}
+use Rattle.avs_ii.specs.Parts.{parts_of}
+use Rattle.avs_ii.specs.Making.{AreTold, AreWhole, kind_number}
 
 -- the counts of faults of all disks, whether a tear is armed on each, and whether all are steady
 abbrev pub faults_of : IiDisks → List ℕ
@@ -32,11 +35,15 @@ armed_of g = map (λ d. d.armed) (disks_of g)
 abbrev pub are_steady : IiDisks → Bool
 are_steady g = list_all (λ d. d.steady) (disks_of g)
 
+-- The calls on contents tell at both exits that the shape stays, that disks which tell their blocks go on to do so, and that
+-- the group is found again on them, whatever the call answered.
+
 -- a volume is added behind the others
 pub record Adds (old : IiDisks) (disk : Seen) (new : IiDisks) : Type 0 where
   pub is : new ≡ record old { volumes = old.volumes ++ disk ∷ [] }
   pub group : meaning new ≡ record (meaning old) { volumes = (meaning old).volumes ++ disk.image ∷ [] }
   pub sound : IsSound old → IsTold disk → IsSound new
+  pub told : AreTold (parts_of old) → IsTold disk → AreTold (parts_of new)
 
 -- the blocks of a volume
 abbrev pub blocks_at : IiDisks → ℕ → ℕ
@@ -65,18 +72,21 @@ abbrev pub IsLimit : IiDisks → Kind → Refusal → Type 0
 IsLimit g k (Limit limit) = limit_at g k ≡ Some limit
 IsLimit g k other = ⊥
 
--- A set waits behind the others to be enabled: its bitmap has the label and two areas, in which each chunk stands on the
--- master alone. Nothing of the shadow's disk is written, and the group's state stays.
+-- A set waits behind the others to be enabled, in the least slot that is free: its bitmap has the label and two areas, in
+-- which each chunk stands on the master alone. Nothing of the shadow's disk is written, and the group's state stays.
 pub record Enables (old : IiDisks) (kind : Kind) (master : ℕ) (shadow bitmap : Seen) (slot : ℕ) (new : IiDisks) : Type 0 where
   pub chunks : ChunkSet
   pub makes : Makes kind shadow bitmap (blocks_at old master) chunks
   pub is : new ≡ record old { sets = old.sets ++ record { slot = slot; master = master; chunks = chunks } ∷ [] }
   pub within : limit_at old kind ≡ None
   pub free : IsFree old slot
+  pub least : (other : ℕ) → other < slot → IsFree old other → ⊥
   pub pending : pending_at new slot ≡ Some (record { slot = slot; master = master; chunks = chunks })
   pub fresh : IsTold shadow → IsTold bitmap → IsFresh (record { slot = slot; master = master; chunks = chunks })
   pub group : IsSound old → meaning new ≡ meaning old
   pub sound : IsSound old → IsSound new
+  pub told : AreTold (parts_of old) → IsTold shadow → IsTold bitmap → AreTold (parts_of new)
+  pub disks : disks_of new ≡ disks_of old ++ shadow ∷ chunks.areas.disk ∷ []
 
 -- why no set waits, and what its disks are then
 abbrev pub EnableRefused : IiDisks → Kind → ℕ → Seen → Seen → Refusal → Seen → Seen → Type 0
@@ -136,6 +146,10 @@ pub record Confirms {T : Type 0} (old : IiDisks) (slot : ℕ) (result : Result T
   pub sound : (s : HeldSet) → pending_at old slot ≡ Some s → IsSound old → IsFresh s → OnOk result (IsSound new)
   pub stopped : (s : HeldSet) → pending_at old slot ≡ Some s → IsSound old → IsFresh s
       → OnErr result ((meaning new ≡ meaning old) ⊎ (meaning new ≡ after_enabling (meaning old) slot s.chunks.kind s.master))
+  pub shape : shape_of new ≡ shape_of old
+  pub still_steady : are_steady new ≡ are_steady old
+  pub told : AreTold (parts_of old) → AreTold (parts_of new)
+  pub whole : (s : HeldSet) → pending_at old slot ≡ Some s → IsSound old → IsFresh s → AreTold (parts_of old) → AreWhole (parts_of new)
 
 -- the pending set of least slot is given up with its disks, and the group's state stays
 pub record GivesUp (old : IiDisks) (s : HeldSet) (shadow bitmap : Seen) (new : IiDisks) : Type 0 where
@@ -146,6 +160,8 @@ pub record GivesUp (old : IiDisks) (s : HeldSet) (shadow bitmap : Seen) (new : I
   pub is : new ≡ record old { sets = filter (λ other. not (other.slot == s.slot)) old.sets }
   pub group : IsSound old → meaning new ≡ meaning old
   pub sound : IsSound old → IsSound new
+  pub told : AreTold (parts_of old) → AreTold (parts_of new)
+  pub disks : disks_of old ≡ disks_of new ++ shadow ∷ bitmap ∷ []
 
 -- so many bytes are whole blocks, one or more, and lie inside the shadow of a set, where it is there, from its block `at` on
 pub record IsShadowRange (g : IiDisks) (slot at len : ℕ) : Type 0 where
@@ -166,6 +182,10 @@ pub record ReadsSet {T : Type 0} (old : IiDisks) (slot : ℕ) (out : List ℕ) (
   pub group : meaning new ≡ meaning old
   pub sound : IsSound old → IsSound new
   pub shows : IsSound old → OnOk result (blocks_of out ≡ range (image_at (meaning old).sets slot) at (length out / 512))
+  pub shape : shape_of new ≡ shape_of old
+  pub still_steady : are_steady new ≡ are_steady old
+  pub told : AreTold (parts_of old) → AreTold (parts_of new)
+  pub whole : IsSound old → AreTold (parts_of old) → AreWhole (parts_of new)
 
 -- blocks of a shadow are written, by the stages of such a write; a fault stops them
 pub record WritesSet {T : Type 0} (old : IiDisks) (slot at : ℕ) (bytes : List ℕ) (result : Result T Refusal) (new : IiDisks) : Type 0 where
@@ -180,6 +200,59 @@ pub record WritesSet {T : Type 0} (old : IiDisks) (slot at : ℕ) (bytes : List 
   pub done : IsSound old → OnOk result (meaning new ≡ after_stages (meaning old) (shadow_write_stages slot at (blocks_of bytes)))
   pub stopped : IsSound old → result ≡ Err Fault → StoppedIn (meaning old) (shadow_write_stages slot at (blocks_of bytes)) (meaning new)
   pub sound : IsSound old → OnOk result (IsSound new)
+  pub shape : shape_of new ≡ shape_of old
+  pub still_steady : are_steady new ≡ are_steady old
+  pub told : AreTold (parts_of old) → AreTold (parts_of new)
+  pub whole : IsSound old → AreTold (parts_of old) → AreWhole (parts_of new)
+
+-- so many bytes are whole blocks, one or more, and lie inside a volume from its block `at` on
+pub record IsVolumeRange (g : IiDisks) (volume at len : ℕ) : Type 0 where
+  pub there : volume < length g.volumes
+  pub some : 0 < len
+  pub whole : 512 * (len / 512) ≡ len
+  pub inside : at + len / 512 ≤ blocks_at g volume
+
+-- the blocks written on each of some disks, and after so many more on one
+abbrev pub written_on : List Seen → List ℕ
+written_on disks = map (λ d. d.written) disks
+
+abbrev pub written_after : List Seen → ℕ → ℕ → List ℕ
+written_after disks place count = slice_set (written_on disks) place (counted (slice_index (written_on disks) place) count)
+
+-- blocks of a volume are read, and nothing changes but the counts of faults
+pub record ReadsVolume {T E : Type 0} (old : IiDisks) (volume : ℕ) (out : List ℕ) (at : ℕ) (result : Result T E) (new : IiDisks) : Type 0 where
+  pub state : new.state ≡ old.state
+  pub block : new.block ≡ old.block
+  pub pending : pending_in new.block.slots new.sets ≡ pending_in old.block.slots old.sets
+  pub armed : armed_of new ≡ armed_of old
+  pub later : NoneFell (faults_of old) (faults_of new)
+  pub failed : OnErr result (OneRose (faults_of old) (faults_of new))
+  pub steady : IsTrue (are_steady old) → IsOk result
+  pub group : meaning new ≡ meaning old
+  pub sound : IsSound old → IsSound new
+  pub shows : IsSound old → OnOk result (blocks_of out ≡ range (volume_image (meaning old) volume) at (length out / 512))
+  pub shape : shape_of new ≡ shape_of old
+  pub still_steady : are_steady new ≡ are_steady old
+  pub told : AreTold (parts_of old) → AreTold (parts_of new)
+  pub whole : IsSound old → AreTold (parts_of old) → AreWhole (parts_of new)
+
+-- blocks of a volume are written, by the stages of such a write; a fault stops them
+pub record WritesVolume {T E : Type 0} (old : IiDisks) (volume at : ℕ) (bytes : List ℕ) (result : Result T E) (new : IiDisks) : Type 0 where
+  pub state : new.state ≡ old.state
+  pub block : new.block ≡ old.block
+  pub pending : pending_in new.block.slots new.sets ≡ pending_in old.block.slots old.sets
+  pub later : NoneFell (faults_of old) (faults_of new)
+  pub failed : OnErr result (OneRose (faults_of old) (faults_of new))
+  pub still_armed : OnOk result (armed_of new ≡ armed_of old)
+  pub spent : IsTrue (are_steady old) → OnErr result (UsesOneTear (armed_of old) (armed_of new))
+  pub done : IsSound old → OnOk result (meaning new ≡ after_stages (meaning old) (volume_write_stages (meaning old).sets volume at (blocks_of bytes)))
+  pub stopped : IsSound old → OnErr result (StoppedIn (meaning old) (volume_write_stages (meaning old).sets volume at (blocks_of bytes)) (meaning new))
+  pub sound : IsSound old → OnOk result (IsSound new)
+  pub counts : OnOk result (written_on new.volumes ≡ written_after old.volumes volume (length bytes / 512))
+  pub shape : shape_of new ≡ shape_of old
+  pub still_steady : are_steady new ≡ are_steady old
+  pub told : AreTold (parts_of old) → AreTold (parts_of new)
+  pub whole : IsSound old → AreTold (parts_of old) → AreWhole (parts_of new)
 
 -- a tear is armed on one of the disks; where none is, nothing changes
 pub record ArmsGroup (old : IiDisks) (disk : ℕ) (result : Bool) (new : IiDisks) : Type 0 where
@@ -188,6 +261,11 @@ pub record ArmsGroup (old : IiDisks) (disk : ℕ) (result : Bool) (new : IiDisks
   pub unarmed : IsTrue (not result) → new ≡ old
   pub block : new.block ≡ old.block
   pub group : meaning new ≡ meaning old
+  pub shape : shape_of new ≡ shape_of old
+  pub still_steady : are_steady new ≡ are_steady old
+  pub told : AreTold (parts_of old) → AreTold (parts_of new)
+  pub sound : IsSound old → IsSound new
+  pub sure : (d : Seen) → slice_get (disks_of old) disk ≡ Some d → IsTrue d.steady → IsTrue result
 
 -- the blocks written on one of the disks
 abbrev pub written_of : IiDisks → ℕ → Option ℕ

@@ -11,10 +11,11 @@ use Rattle.avs_ii.specs.Meaning.{standing_of}
 use Rattle.avs_ii.specs.Saved.{IsSettledInMemory}
 use Rattle.avs_ii.specs.Parts.{size_of}
 use Rattle.avs_ii.specs.Making.{kind_number}
+use Rattle.avs_ii.specs.Opening.{IsOnDisks}
 
--- of a set: its slot and its master are there, the shadow's disk too, it is as large as its master, which has a block, no chunk stands on the
--- shadow alone; where it is pending the first area is live; and where it is enabled the area is live and the kind is given that its slot
--- says, and it is neither offline nor exported
+-- of a set: its slot and its master are there, the shadow's disk too, its disks have room for it, it is as large as its
+-- master, which has a block, no chunk stands on the shadow alone; where it is pending the first area is live; and where it
+-- is enabled the area is live and the kind is given that its slot says, and it is neither offline nor exported
 pub record IsHeld (slots : List Slot) (volumes : List Seen) (s : HeldSet) : Type 0 where
   pub slot : s.slot < slot_count
   pub master : s.master < length volumes
@@ -27,6 +28,7 @@ pub record IsHeld (slots : List Slot) (volumes : List Seen) (s : HeldSet) : Type
   pub online : is_live slots s.slot ≡ true → standing_of (slot_in slots s.slot) ≡ Online
   pub settled : IsSettledInMemory s.chunks
   pub some : 0 < s.chunks.blocks
+  pub on : IsOnDisks s
 
 -- of a group: its state disk is large enough, and its block can be written
 pub record IsKept (disk : Seen) (block : GroupBlock) (volumes : List Seen) (sets : List HeldSet) : Type 0 where

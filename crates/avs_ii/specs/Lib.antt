@@ -3,6 +3,7 @@ pub mod Meaning
 pub mod Sound
 pub mod SetDisks
 pub mod Parts
+pub mod Shape
 pub mod Opened
 pub mod Saved
 pub mod Kept

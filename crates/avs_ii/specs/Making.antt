@@ -17,7 +17,7 @@ use Rattle.avs_code.specs.Rules.{first_broken}
 use Rattle.avs_code.specs.declared.labels.Label.{Label}
 use Rattle.avs_code.specs.declared.slot_table.Slot.{Slot}
 use Rattle.avs_code.specs.declared.group_blocks.GroupBlock.{GroupBlock}
-use Rattle.avs_model.specs.Shadows.{GroupState, slot_count}
+use Rattle.avs_model.specs.Shadows.{GroupState, bare_group, slot_count}
 use Rattle.avs_model.specs.declared.shadow.Kind.{Kind}
 use Rattle.avs_model.specs.declared.shadow.Kind.TheVariants.{Ind, Dep, Compact}
 use Rattle.avs_flip.specs.Areas.{live}
@@ -29,6 +29,7 @@ use Rattle.avs_ii.specs.Held.{IiDisks, disks_of, slot_in, is_live, has_flag, are
 use Rattle.avs_ii.specs.Meaning.{meaning, kept_on}
 use Rattle.avs_ii.specs.Sound.{IsSound, state_label}
 use Rattle.avs_ii.specs.SetDisks.{SetDisks}
+use Rattle.avs_ii.specs.Shape.{shape_of, parts_shape}
 use Rattle.avs_ii.specs.Parts.{PartDisks, size_of, parts_of, meaning_of_parts}
 
 -- the blocks of a state disk
@@ -41,7 +42,7 @@ empty_block = record { version = 1; sequence = 0; slots = replicate 16 no_slot; 
 
 -- no volumes, no sets, and a note of zeros
 abbrev pub empty_group : GroupState
-empty_group = record { volumes = []; sets = []; note = replicate 64 0 }
+empty_group = bare_group []
 
 -- the label and a block are written by one write
 pub record Formats {T E : Type 0} (old : Seen) (block : GroupBlock) (result : Result T E) (new : Seen) : Type 0 where
@@ -49,6 +50,16 @@ pub record Formats {T E : Type 0} (old : Seen) (block : GroupBlock) (result : Re
   pub len : length bytes ≡ 1024
   pub blocks : blocks_of bytes ≡ label_block state_label ∷ group_block block ∷ []
   pub writes : Writes old 0 bytes result new
+
+-- all disks of a set, and of a group, tell their blocks
+pub record IsSetTold (s : SetDisks) : Type 0 where
+  pub shadow : IsTold (disk_of s.shadow)
+  pub bitmap : IsTold s.bitmap
+
+pub record AreTold (parts : PartDisks) : Type 0 where
+  pub state : IsTold parts.state
+  pub volumes : All IsTold parts.volumes
+  pub sets : All IsSetTold parts.sets
 
 -- a new group: the label and the empty block are written on its state disk
 pub record Opens (state : Seen) (new : IiDisks) : Type 0 where
@@ -59,6 +70,7 @@ pub record Opens (state : Seen) (new : IiDisks) : Type 0 where
   pub written : IsTold state → new.state.image ≡ put state.image 0 (label_block state_label ∷ group_block empty_block ∷ [])
   pub sound : IsTold state → IsSound new
   pub group : IsTold state → meaning new ≡ empty_group
+  pub told : IsTold state → AreTold (parts_of new)
 
 -- the state disk failed while it was written
 pub record FailsOpening (old new : Seen) : Type 0 where
@@ -122,16 +134,6 @@ pub record IsSettledOn (bitmap : Seen) (blocks : ℕ) (live_b : Bool) : Type 0 w
 -- no chunk of an enabled set stands on the shadow alone, which none does yet
 pub record IsSetSettled (slots : List Slot) (volumes : List Seen) (s : SetDisks) : Type 0 where
   pub none_back : is_live slots s.slot ≡ true → IsSettledOn s.bitmap (size_of volumes s.master) (has_flag area_b (slot_in slots s.slot))
-
--- all disks of a set, and of a group, tell their blocks
-pub record IsSetTold (s : SetDisks) : Type 0 where
-  pub shadow : IsTold (disk_of s.shadow)
-  pub bitmap : IsTold s.bitmap
-
-pub record AreTold (parts : PartDisks) : Type 0 where
-  pub state : IsTold parts.state
-  pub volumes : All IsTold parts.volumes
-  pub sets : All IsSetTold parts.sets
 
 -- parts that a group is found on
 pub record AreWhole (parts : PartDisks) : Type 0 where
@@ -215,8 +217,11 @@ pub record Loads (parts : PartDisks) (new : IiDisks) : Type 0 where
   pub group : meaning new ≡ meaning_of_parts parts
   pub block : IsTold parts.state → new.block ≡ kept_on parts.state
   pub sound : AreTold parts → IsSound new
+  pub told : AreTold parts → AreTold (parts_of new)
+  pub shape : shape_of new ≡ parts_shape parts
+  pub same : map no_faults (disks_of new) ≡ map no_faults (disks_in parts)
 
--- why no group was found; the parts are handed back as they were, but for the counts of faults
+-- why no group was found; the parts are handed back as they were, but for the counts of faults, and stand for the same group
 abbrev pub WhyNotFound : PartDisks → Why → PartDisks → Type 0
 WhyNotFound old (Size need have) new = ⊥
 WhyNotFound old (BadRecord field) new = AreTold old → AreBad old field × (AreWhole old → ⊥)
@@ -227,3 +232,8 @@ pub record LoadRefused (old : PartDisks) (why : Why) (new : PartDisks) : Type 0 
   pub parts : parts_no_faults new ≡ parts_no_faults old
   pub later : NoneFell (map (λ d. d.faults) (disks_in old)) (map (λ d. d.faults) (disks_in new))
   pub cause : WhyNotFound old why new
+  pub told : AreTold old → AreTold new
+  pub whole : AreWhole old → AreWhole new
+  pub group : meaning_of_parts new ≡ meaning_of_parts old
+  pub shape : parts_shape new ≡ parts_shape old
+  pub same : map no_faults (disks_in new) ≡ map no_faults (disks_in old)

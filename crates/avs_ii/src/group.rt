@@ -1,19 +1,21 @@
 // A group of volumes and its shadow sets.
-ghost use Rattle.std.specs.Prelude.{◌≡◌, ◌+◌, ◌*◌, ◌/◌, ◌<◌, ◌≤◌, IfOk, IfErr, IfSome, IfNone, IsTrue, OnOk, OnErr, All, None, true, false, not, [], map, length, slice_set, vec_len, vec_capacity};
+ghost use Rattle.std.specs.Prelude.{◌≡◌, ℕ, ◌+◌, ◌*◌, ◌/◌, ◌<◌, ◌≤◌, IfOk, IfErr, IfSome, IfNone, IsTrue, OnOk, OnErr, All, None, true, false, not, [], map, length, slice_get, slice_set, vec_len, vec_capacity, is_ok, is_some, find, ◌==◌};
 ghost use Rattle.std.specs.List.{list_all};
 ghost use Rattle.std.specs.Option.{option_map};
-ghost use Rattle.avs_dev.specs.Below.{IsNoteTold};
+ghost use Rattle.avs_dev.specs.Below.{IsNoteTold, IsRangeOf, ReadsBelow, WritesBelow};
+ghost use Rattle.avs_model.specs.Shadows.{slot_count, to_copy};
 ghost use Rattle.avs_model.specs.declared.answer.Refusal.TheVariants.{NoMemory};
-ghost use Rattle.avs_ii.specs.Held.{HeldSet, IiDisks, has_flag, is_live, live, pending_in, pending_at, set_at};
+ghost use Rattle.avs_ii.specs.Held.{HeldSet, IiDisks, disks_of, has_flag, is_live, live, pending_in, pending_at, set_at};
 ghost use Rattle.avs_ii.specs.Meaning.{meaning, kept_on};
 ghost use Rattle.avs_ii.specs.Sound.{IsSound};
 ghost use Rattle.avs_ii.specs.Parts.{part_disks, parts_of, set_parts, meaning_of_parts};
-ghost use Rattle.avs_ii.specs.Making.{Opens, OpenRefused, Loads, LoadRefused, AreWhole, AreTold};
-ghost use Rattle.avs_ii.specs.AsBelow.{below_of, rest_of, group_of};
+ghost use Rattle.avs_ii.specs.Making.{Opens, OpenRefused, Loads, LoadRefused, AreWhole, AreTold, disks_in};
+ghost use Rattle.avs_ii.specs.Shape.{shape_of, parts_shape};
+ghost use Rattle.avs_ii.specs.AsBelow.{below_of, rest_of, group_of, WroteRest};
 ghost use Rattle.avs_ii.specs.Opened.{sets_of};
 ghost use Rattle.avs_ii.specs.SetDisks.{set_disks};
-ghost use Rattle.avs_ii.specs.Opening.{AreFew, IsOnDisks, OpensOne, RefusesOne};
-ghost use Rattle.avs_ii.specs.Calls.{blocks_at, IsFree, IsLimit, limit_at, next_block, live_slot, Adds, Enables, EnableRefused, Confirms, GivesUp, ReadsSet, WritesSet, IsShadowRange, ArmsGroup, written_of};
+ghost use Rattle.avs_ii.specs.Opening.{AreFew, OpensOne, RefusesOne};
+ghost use Rattle.avs_ii.specs.Calls.{blocks_at, IsFree, IsLimit, limit_at, next_block, live_slot, Adds, Enables, EnableRefused, Confirms, GivesUp, ReadsSet, WritesSet, IsShadowRange, IsVolumeRange, ReadsVolume, WritesVolume, ArmsGroup, written_of};
 
 use crate::held::{Held, close, has_flag, is_live, is_named, is_set_of, kind_number, open};
 use crate::lists::{DiskList, SetList, SetParts};
@@ -22,7 +24,7 @@ use crate::refusals::{faulted, refusal_of, small};
 use crate::saved::write_saved;
 use crate::state_disk::{BETWEEN, empty_block, format, put_block, read_state};
 use avs_chunk::Chunks;
-use avs_code::{GroupBlock, Slot};
+use avs_code::{GroupBlock, SLOTS, Slot};
 use avs_dev::{Arm, Back, Below, Closed, Disk, Tear, Why};
 use avs_model::{Kind, Refusal};
 use avs_seg::Failed;
@@ -119,6 +121,8 @@ impl<D: Disk> IiGroup<D> {
         ensures meaning { meaning_of_parts (part_disks D.seen result) ≡ meaning self }
         ensures rest { IsNoteTold (below_of self) → meaning self ≡ record (group_of (rest_of self)) { note = (kept_on self.state).note } }
         ensures whole { IsSound self → AreTold (part_disks D.seen result) → AreWhole (part_disks D.seen result) }
+        ensures disks { disks_in (part_disks D.seen result) ≡ disks_of self }
+        ensures shape { parts_shape (part_disks D.seen result) ≡ shape_of self }
     {
         let IiGroup {
             state,
@@ -158,6 +162,7 @@ impl<D: Disk> IiGroup<D> {
     // The slot of a set more, where it is inside the limits for now.
     fn next_slot(&self, kind: Kind) -> Result<u32, Refusal>
         ensures free { IfOk result (λ slot. IsFree self.now slot) }
+        ensures least { IfOk result (λ slot. (other : ℕ) → other < slot → IsFree self.now other → ⊥) }
         ensures within { IfOk result (λ _. limit_at self.now kind ≡ None) }
         ensures none { IfOk result (λ _. self.now.sets ≡ []) }
         ensures limit { IfErr result (λ why. IsLimit self.now kind why) }
@@ -170,7 +175,7 @@ impl<D: Disk> IiGroup<D> {
         }
         match free_slot(&self.block) {
             Some(slot) => Ok(slot),
-            None => Err(Refusal::Limit(16)),
+            None => Err(Refusal::Limit(SLOTS as u64)),
         }
     }
 
@@ -266,13 +271,83 @@ impl<D: Disk> IiGroup<D> {
         Some((slot, shadow?, bitmap))
     }
 
+    /// How many blocks a volume has, where it is there.
+    pub fn volume_size(&self, volume: u32) -> Option<u32>
+        ensures size { result ≡ option_map (λ v. v.size) (slice_get self.now.volumes volume) }
+        ensures there { IfSome result (λ blocks. (volume < length self.now.volumes) × (blocks ≡ blocks_at self.now volume)) }
+    {
+        let place = volume as usize;
+        if place < self.volumes.len() {
+            return Some(self.volumes[place].blocks());
+        }
+        None
+    }
+
+    // Reads blocks of a volume.
+    fn read_at(&mut self, volume: u32, at: u32, out: &mut [u8]) -> Result<(), Failed>
+        requires { IsRangeOf (below_of self.old) volume at (length out.old) }
+        ensures reads { ReadsBelow (below_of self.old) volume at out.new result (below_of self.new) }
+        ensures rest { rest_of self.new ≡ rest_of self.old }
+        ensures volume { ReadsVolume self.old volume out.new at result self.new }
+    {
+        self.volumes[volume as usize].read(at, out)
+    }
+
+    // Writes blocks of a volume. Where a set of it is enabled, the set's chunks are saved first.
+    fn write_at(&mut self, volume: u32, at: u32, bytes: &[u8]) -> Result<(), Failed>
+        requires { IsRangeOf (below_of self.old) volume at (length bytes.now) }
+        ensures writes { WritesBelow (below_of self.old) volume at bytes.now result (below_of self.new) }
+        ensures wrote { WroteRest (rest_of self.old) volume at bytes.now (is_ok result) (rest_of self.new) }
+        ensures volume { WritesVolume self.old volume at bytes.now result self.new }
+    {
+        let disk = &mut self.volumes[volume as usize];
+        if let Some(held) = &mut self.set {
+            if is_set_of(&self.block, held.slot, held.master, volume) {
+                return write_saved(&mut held.chunks, disk, at, bytes);
+            }
+            return disk.write(at, bytes);
+        }
+        disk.write(at, bytes)
+    }
+
+    /// Reads blocks of a volume. A failed read may have changed `out`.
+    pub fn read_volume(&mut self, volume: u32, at: u32, out: &mut [u8]) -> Result<(), Failed>
+        requires { IsVolumeRange self.old volume at (length out.old) }
+        ensures { ReadsVolume self.old volume out.new at result self.new }
+    {
+        self.read_at(volume, at, out)
+    }
+
+    /// Writes blocks of a volume.
+    pub fn write_volume(&mut self, volume: u32, at: u32, bytes: &[u8]) -> Result<(), Failed>
+        requires { IsVolumeRange self.old volume at (length bytes.now) }
+        ensures { WritesVolume self.old volume at bytes.now result self.new }
+    {
+        self.write_at(volume, at, bytes)
+    }
+
     /// How many blocks the shadow of a set has, where the set is there.
     pub fn shadow_size(&self, set: u32) -> Option<u32>
-        ensures { result ≡ option_map (λ s. s.chunks.blocks) (set_at self.now set) }
+        ensures held { result ≡ option_map (λ s. s.chunks.blocks) (set_at self.now set) }
+        ensures named { IsSound self.now → result ≡ option_map (λ s. s.blocks) (find (λ s. s.slot == set) (meaning self.now).sets) }
     {
         if let Some(held) = &self.set {
             if is_named(&self.block, held.slot, set) {
                 return Some(self.volumes[held.master as usize].blocks());
+            }
+            return None;
+        }
+        None
+    }
+
+    /// How many chunks of a set are to be copied one way or the other, where the set is there.
+    pub fn to_copy(&self, set: u32) -> Option<u32>
+        ensures there { is_some result ≡ is_some (set_at self.now set) }
+        ensures named { IsSound self.now → result ≡ option_map to_copy (find (λ s. s.slot == set) (meaning self.now).sets) }
+    {
+        if let Some(held) = &self.set {
+            if is_named(&self.block, held.slot, set) {
+                return Some(held.chunks.left() + held.chunks.back());
             }
             return None;
         }
@@ -350,7 +425,8 @@ impl<D: Disk> IiGroup<D> {
 
 // The least slot that is not live.
 fn free_slot(block: &GroupBlock) -> Option<u32>
-    ensures free { IfSome result (λ slot. (slot < 16) × (is_live block.now.slots slot ≡ false)) }
+    ensures free { IfSome result (λ slot. (slot < slot_count) × (is_live block.now.slots slot ≡ false)) }
+    ensures least { IfSome result (λ slot. (other : ℕ) → other < slot → is_live block.now.slots other ≡ true) }
     ensures none { IfNone result (list_all (has_flag live) block.now.slots ≡ true) }
 {
     let place = block
@@ -363,7 +439,7 @@ fn free_slot(block: &GroupBlock) -> Option<u32>
 
 // The next block, in which the set of a slot is enabled.
 fn next_with(block: &GroupBlock, slot: u32, kind: Kind) -> GroupBlock
-    requires { slot < 16 }
+    requires { slot < slot_count }
     ensures { result ≡ record (next_block block.now) { slots = slice_set block.now.slots slot (live_slot kind) } }
 {
     let mut next = *block;
@@ -416,8 +492,7 @@ fn take_set<D: Disk>(
 fn close_all<D: Disk>(set: Option<Held<D>>, mut room: Vec<SetParts<D>>) -> Vec<SetParts<D>>
     requires empty { vec_len room ≡ 0 }
     requires place { length (sets_of set) ≤ vec_capacity room }
-    ensures parts { map (set_disks D.seen) result.items ≡ map set_parts (sets_of set) }
-    ensures on { All IsOnDisks (sets_of set) }
+    ensures { map (set_disks D.seen) result.items ≡ map set_parts (sets_of set) }
 {
     match set {
         Some(held) => {
@@ -489,18 +564,11 @@ impl<D: Disk> Below for IiGroup<D> {
     }
 
     fn read(&mut self, vol: u32, at: u32, out: &mut [u8]) -> Result<(), Failed> {
-        self.volumes[vol as usize].read(at, out)
+        self.read_at(vol, at, out)
     }
 
     fn write(&mut self, vol: u32, at: u32, bytes: &[u8]) -> Result<(), Failed> {
-        let volume = &mut self.volumes[vol as usize];
-        if let Some(held) = &mut self.set {
-            if is_set_of(&self.block, held.slot, held.master, vol) {
-                return write_saved(&mut held.chunks, volume, at, bytes);
-            }
-            return volume.write(at, bytes);
-        }
-        volume.write(at, bytes)
+        self.write_at(vol, at, bytes)
     }
 
     fn note(&self) -> [u8; 64] {

@@ -3,8 +3,8 @@ ghost use Rattle.std.specs.Prelude.{◌≡◌, ◌<◌, ◌≤◌, ◌&&◌, ◌
 ghost use Rattle.avs_dev.specs.declared.back.Why.TheVariants.{BadRecord};
 ghost use Rattle.avs_ii.specs.Saved.{IsSettledInMemory};
 ghost use Rattle.std.specs.Option.{option_map};
-ghost use Rattle.avs_chunk.specs.Making.{Fits, areas_on};
 ghost use Rattle.avs_code.specs.declared.slot_table.Slot.{Slot};
+ghost use Rattle.avs_model.specs.Shadows.{slot_count};
 ghost use Rattle.avs_ii.specs.Held.{has_flag, is_live, slot_in};
 ghost use Rattle.avs_ii.specs.Opened.{held_of};
 ghost use Rattle.avs_ii.specs.SetDisks.{set_disks};
@@ -38,7 +38,7 @@ pub(crate) fn has_flag(slot: Slot, flag: u8) -> bool
 
 // A slot of a block.
 fn slot_in(block: &GroupBlock, slot: u32) -> Slot
-    requires { slot < 16 }
+    requires { slot < slot_count }
     ensures { result ≡ slot_in block.now.slots slot }
 {
     block.slots.get(slot as usize)
@@ -46,7 +46,7 @@ fn slot_in(block: &GroupBlock, slot: u32) -> Slot
 
 // Whether the slot says that its set is enabled.
 pub(crate) fn is_live(block: &GroupBlock, slot: u32) -> bool
-    requires { slot < 16 }
+    requires { slot < slot_count }
     ensures { result ≡ is_live block.now.slots slot }
 {
     has_flag(slot_in(block, slot), Slot::LIVE)
@@ -54,7 +54,7 @@ pub(crate) fn is_live(block: &GroupBlock, slot: u32) -> bool
 
 // Whether the set with that slot is enabled, and has that volume as its master.
 pub(crate) fn is_set_of(block: &GroupBlock, slot: u32, master: u32, volume: u32) -> bool
-    requires { slot < 16 }
+    requires { slot < slot_count }
     ensures { result ≡ (nat_eq master volume && is_live block.now.slots slot) }
 {
     master == volume && is_live(block, slot)
@@ -62,7 +62,7 @@ pub(crate) fn is_set_of(block: &GroupBlock, slot: u32, master: u32, volume: u32)
 
 // Whether the set with that slot is enabled, and is the one that is asked for.
 pub(crate) fn is_named(block: &GroupBlock, slot: u32, set: u32) -> bool
-    requires { slot < 16 }
+    requires { slot < slot_count }
     ensures { result ≡ (nat_eq slot set && is_live block.now.slots slot) }
 {
     slot == set && is_live(block, slot)
@@ -100,7 +100,7 @@ fn is_whole(kind: Kind) -> bool
 
 // Whether a slot is free for a set of that kind, or fits it.
 fn fits_block(block: &GroupBlock, slot: u32, kind: Kind) -> bool
-    requires { slot < 16 }
+    requires { slot < slot_count }
     ensures { result ≡ (not (is_live block.now.slots slot) || fits_slot (slot_in block.now.slots slot) kind) }
 {
     !is_live(block, slot) || fits_slot(slot_in(block, slot), kind)
@@ -208,7 +208,7 @@ fn open_chunks<D: Disk>(
     bitmap: D,
     blocks: u32,
 ) -> Result<Chunks<D>, Back<(Option<D>, D), Why>>
-    requires slot { slot < 16 }
+    requires slot { slot < slot_count }
     requires some { 0 < blocks }
     ensures opens { IfOk result (λ s. OpensChunks block.now.slots slot kind (option_map D.seen shadow) (D.seen bitmap) blocks s) }
     ensures refused { IfErr result (λ e. ChunksRefused block.now.slots slot (option_map D.seen shadow) (D.seen bitmap) blocks e.why (D.seen e.parts.1)) }
@@ -243,9 +243,7 @@ fn open_chunks<D: Disk>(
 
 // The disks of a set.
 pub(crate) fn close<D: Disk>(held: Held<D>) -> SetParts<D>
-    ensures parts { set_disks D.seen result ≡ set_parts (held_of held) }
-    ensures fits { Fits held.chunks.shadow held.chunks.areas.disk held.chunks.blocks }
-    ensures areas { held.chunks.areas ≡ areas_on held.chunks.areas.disk held.chunks.blocks held.chunks.areas.live_b }
+    ensures { set_disks D.seen result ≡ set_parts (held_of held) }
 {
     let Held {
         slot,

@@ -123,6 +123,34 @@ fn write_shadow(
     group.write_shadow(set, at, bytes)
 }
 
+// The same by the volume's number in the group.
+fn put(
+    rt: &impl Abort,
+    group: &mut Group,
+    volume: u32,
+    at: u32,
+    bytes: &[u8],
+) -> Result<(), Failed> {
+    let count = bytes.len() / BLOCK;
+    assert!(rt; count > 0 && BLOCK * count == bytes.len());
+    let Some(blocks) = group.volume_size(volume) else {
+        return Err(Failed);
+    };
+    assert!(rt; at as usize + count <= blocks as usize);
+    group.write_volume(volume, at, bytes)
+}
+
+fn byte_at(rt: &impl Abort, group: &mut Group, volume: u32, at: u32) -> Result<u8, Failed> {
+    let mut out = [0xee; BLOCK];
+    let Some(blocks) = group.volume_size(volume) else {
+        return Err(Failed);
+    };
+    assert!(rt; at < blocks);
+    group.read_volume(volume, at, &mut out)?;
+    assert!(rt; out.iter().all(|&byte| byte == out[0]));
+    Ok(out[0])
+}
+
 // The byte of a block of a volume.
 fn volume_byte<B: Below>(rt: &impl Abort, below: &mut B, vol: u32, at: u32) -> Result<u8, Failed> {
     let mut out = [0xee; BLOCK];
@@ -280,6 +308,58 @@ fn each_torn_write_under_a_write_to_a_master(rt: HostRuntime) -> Result<(), Fail
         assert_eq!(rt; volume_byte(&rt, &mut group, 0, 64)?, second);
         assert_eq!(rt; write(&rt, &mut group, 0, 63, &[200; 2 * BLOCK]), Ok(()));
         assert!(rt; shows_old(&rt, &mut group)?);
+    }
+    Ok(())
+}
+
+#[test]
+fn a_failed_write_to_a_volume(rt: HostRuntime) -> Result<(), Fail> {
+    let alloc = rt.alloc();
+    for (disk, skip, count, first) in [
+        (SHADOW, 0, 1, 63),
+        (BITMAP, 1, 1, 63),
+        (MASTER, 0, 1, 200),
+        (OTHER, 0, 1, 200),
+    ] {
+        let volume = if disk == OTHER { 1 } else { 0 };
+        let mut group = armed(&rt, alloc, disk, skip, count)?;
+        assert_eq!(rt;
+            put(&rt, &mut group, volume, 63, &[200; 2 * BLOCK]),
+            Err(Failed)
+        );
+        let mut group = reload(alloc, group)?;
+        assert!(rt; shows_old(&rt, &mut group)?, "{disk}");
+        assert_eq!(rt; byte_at(&rt, &mut group, volume, 63)?, first);
+        assert_eq!(rt; byte_at(&rt, &mut group, volume, 64)?, 64);
+        assert_eq!(rt; put(&rt, &mut group, volume, 63, &[200; 2 * BLOCK]), Ok(()));
+        assert_eq!(rt; byte_at(&rt, &mut group, volume, 64)?, 200);
+        assert!(rt; shows_old(&rt, &mut group)?);
+    }
+    Ok(())
+}
+
+#[test]
+fn sizes_of_volumes(rt: HostRuntime) -> Result<(), Fail> {
+    let group = fresh(&rt, rt.alloc())?;
+    for (volume, size) in [(0, Some(130)), (1, Some(70)), (2, None)] {
+        assert_eq!(rt; group.volume_size(volume), size);
+    }
+    Ok(())
+}
+
+#[test]
+fn chunks_to_copy(rt: HostRuntime) -> Result<(), Fail> {
+    let alloc = rt.alloc();
+    for (kind, before, after) in [(Kind::Ind, 3, 1), (Kind::Dep, 0, 0)] {
+        let mut group = waiting(&rt, alloc, kind)?;
+        assert_eq!(rt; group.to_copy(0), None);
+        assert_eq!(rt; group.confirm(0), Ok(()));
+        assert_eq!(rt; group.to_copy(0), Some(before));
+        assert_eq!(rt; put(&rt, &mut group, 0, 63, &[200; 2 * BLOCK]), Ok(()));
+        assert_eq!(rt; group.to_copy(0), Some(after));
+        let group = reload(alloc, group)?;
+        assert_eq!(rt; group.to_copy(0), Some(after));
+        assert_eq!(rt; group.to_copy(1), None);
     }
     Ok(())
 }

@@ -1,8 +1,15 @@
-use Rattle.std.proofs.Common.{rules, ◌≡◌, ◌-◌, ◌<◌, ◌≤◌, ◌∙◌, ℕ, vec_len, length, refl, subst, arith}
+use Rattle.std.proofs.Common.{rules, ◌≡◌, ◌-◌, ◌<◌, ◌≤◌, ◌∙◌, ℕ, Bool, IsTrue, vec_len, length, map, refl, sym, subst, arith}
 use Rattle.avs_chunk.specs.Arming.{ArmsOne}
+use Rattle.avs_ii.specs.Opened.{sets_of}
 use Rattle.avs_ii.proofs.Views.{room_some}
-use Rattle.avs_ii.proofs.Arming.{volume_arms_as, volume_arms_kept, set_arms_as, set_arms_kept_as, no_set_arms}
+use Rattle.avs_ii.proofs.Arming.{state_arms_as, volume_arms_as, volume_arms_kept, set_arms_as, set_arms_kept_as, no_set_arms}
 use Rattle.avs_ii.proofs.group.IiGroup.arm.Goals as goal
+
+pub returns-then-disk-eq0 : goal.returns-then-disk-eq0
+returns-then-disk-eq0 g c =
+    let i = c.self.inside in
+    state_arms_as c.args.disk c.if-disk-eq0.true c.args.self.now (g.D.Disk.seen i.state) (g.D.Disk.seen c.arm.new.self) i.block (map g.D.Disk.seen i.volumes.items) (sets_of i.set) c.self.view_is c.arm.result c.arm.ensures
+    (λ steady. subst (λ (b : Bool). IsTrue b) (sym c.arm.ensures.answer) (g.met.D.Arm.steady_arms i.state steady))
 
 pub returns-then-place-len : goal.returns-then-place-len
 returns-then-place-len g c =
@@ -10,6 +17,7 @@ returns-then-place-len g c =
     let place : ℕ = c.args.disk - 1 in
     let lt : place < length i.volumes.items = search rules in
     volume_arms_as g.D.Disk.seen (g.D.Disk.seen i.state) i.block i.volumes.items i.set c.args.self.now c.self.view_is c.self.invariant.0 c.args.disk place (omega (arith, c.if-disk-eq0.false)) c.index_mut.result.now c.arm-then-place-len.new.self c.index_mut.ensures.value lt c.arm-then-place-len.result c.arm-then-place-len.ensures
+    (λ steady. subst (λ (b : Bool). IsTrue b) (sym c.arm-then-place-len.ensures.answer) (g.met.D.Arm.steady_arms c.index_mut.result.now steady))
 
 pub invariant_of-self-then-place-len : goal.invariant_of-self-then-place-len
 invariant_of-self-then-place-len g c =

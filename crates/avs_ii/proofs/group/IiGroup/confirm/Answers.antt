@@ -8,7 +8,8 @@ use Rattle.avs_ii.specs.Held.{HeldSet, IiDisks, pending_at}
 use Rattle.avs_ii.specs.Opened.{sets_of}
 use Rattle.avs_ii.specs.Kept.{IsKept, IsHeld}
 use Rattle.avs_ii.specs.Calls.{block_with, Confirms}
-use Rattle.avs_ii.proofs.Making.{the_group, found_kind, at_most_one, next_is, next_keeps, of_all, confirm_ok, confirm_err, kept_ok}
+use Rattle.avs_ii.proofs.Making.{the_group, found_kind, at_most_one, next_is, of_all}
+use Rattle.avs_ii.proofs.Confirming.{next_keeps, confirm_ok, confirm_err, kept_ok}
 use Rattle.avs_ii.proofs.group.IiGroup.confirm.Goals as goal
 
 pub next_with-block-requires : goal.next_with-block-requires

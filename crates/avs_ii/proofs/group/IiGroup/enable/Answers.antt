@@ -21,8 +21,9 @@ invariant_of-self g c =
     let blocks : c.blocks-blocks.result ≡ blocks_at (the_group (seen i.state) i.block V []) c.args.master = c.blocks-blocks.ensures ∙ sym (blocks_seen seen (seen i.state) i.block i.volumes.items [] c.args.master c.index.result.now there c.index.ensures) in
     let makes = subst (λ (n : ℕ). Makes c.args.kind (seen c.args.shadow) (seen c.args.bitmap) n c.in-Ok-make.chunks) blocks c.in-Ok-make.ensures.made in
     let free = subst (λ (d : IiDisks). IsFree d c.in-Ok.slot) base c.in-Ok.ensures.free in
+    let least = subst (λ (d : IiDisks). (other : ℕ) → other < c.in-Ok.slot → IsFree d other → ⊥) base c.in-Ok.ensures.least in
     let within = subst (λ (d : IiDisks). limit_at d c.args.kind ≡ None) base c.in-Ok.ensures.within in (
-      kept_with (seen i.state) i.block V c.args.kind c.args.master c.in-Ok.slot (seen c.args.shadow) (seen c.args.bitmap) c.in-Ok-make.chunks free within makes (subst (λ (d : IiDisks). 0 < blocks_at d c.args.master) base c.requires.some) (omega (arith, there, length-map i.volumes.items seen))
+      kept_with (seen i.state) i.block V c.args.kind c.args.master c.in-Ok.slot (seen c.args.shadow) (seen c.args.bitmap) c.in-Ok-make.chunks free least within makes (subst (λ (d : IiDisks). 0 < blocks_at d c.args.master) base c.requires.some) (omega (arith, there, length-map i.volumes.items seen))
           (subst (λ (l : List HeldSet). IsKept (seen i.state) i.block V l) none c.self.invariant.0),
       record { empty = c.in-Ok-with_capacity.ensures.len; place = omega (arith, c.in-Ok-with_capacity.ensures.exact); none = c.self.invariant.1.none },
     )
@@ -38,9 +39,10 @@ returns-in-Ok-make-clause-enables g c =
     let blocks : c.blocks-blocks.result ≡ blocks_at (the_group (seen i.state) i.block V []) c.args.master = c.blocks-blocks.ensures ∙ sym (blocks_seen seen (seen i.state) i.block i.volumes.items [] c.args.master c.index.result.now there c.index.ensures) in
     let makes = subst (λ (n : ℕ). Makes c.args.kind (seen c.args.shadow) (seen c.args.bitmap) n c.in-Ok-make.chunks) blocks c.in-Ok-make.ensures.made in
     let free = subst (λ (d : IiDisks). IsFree d c.in-Ok.slot) base c.in-Ok.ensures.free in
+    let least = subst (λ (d : IiDisks). (other : ℕ) → other < c.in-Ok.slot → IsFree d other → ⊥) base c.in-Ok.ensures.least in
     let within = subst (λ (d : IiDisks). limit_at d c.args.kind ≡ None) base c.in-Ok.ensures.within in
     subst (λ (d : IiDisks). Enables d c.args.kind c.args.master (seen c.args.shadow) (seen c.args.bitmap) c.in-Ok.slot (the_group (seen i.state) i.block V (record { slot = c.in-Ok.slot; master = c.args.master; chunks = c.in-Ok-make.chunks } ∷ []))) (sym base)
-    (enables (seen i.state) i.block V c.args.kind c.args.master c.in-Ok.slot (seen c.args.shadow) (seen c.args.bitmap) c.in-Ok-make.chunks free within makes)
+    (enables (seen i.state) i.block V c.args.kind c.args.master c.in-Ok.slot (seen c.args.shadow) (seen c.args.bitmap) c.in-Ok-make.chunks free least within makes)
 
 pub returns-in-Err-make-clause-refused : goal.returns-in-Err-make-clause-refused
 returns-in-Err-make-clause-refused g c =

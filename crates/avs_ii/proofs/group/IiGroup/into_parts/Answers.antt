@@ -1,5 +1,6 @@
 use Rattle.std.proofs.Common.{◌≡◌, List, [], map, sym, ap, subst, ◌∙◌}
-use Rattle.avs_ii.specs.Held.{IiDisks}
+use Rattle.avs_ii.specs.Held.{IiDisks, disks_of}
+use Rattle.avs_ii.specs.Shape.{shape_of, parts_shape}
 use Rattle.avs_ii.specs.Meaning.{meaning, kept_on}
 use Rattle.avs_ii.specs.Sound.{IsSound}
 use Rattle.avs_ii.specs.Opened.{sets_of}
@@ -7,9 +8,9 @@ use Rattle.avs_dev.specs.Below.{IsNoteTold}
 use Rattle.avs_ii.specs.AsBelow.{below_of, rest_of, group_of}
 use Rattle.avs_ii.specs.SetDisks.{SetDisks}
 use Rattle.avs_ii.specs.Parts.{PartDisks, part_disks, parts_of, meaning_of_parts}
-use Rattle.avs_ii.specs.Making.{AreWhole}
+use Rattle.avs_ii.specs.Making.{AreWhole, disks_in}
 use Rattle.avs_ii.proofs.Making.{at_most_one}
-use Rattle.avs_ii.proofs.Loading.{meaning_parts, rest_parts, whole_parts}
+use Rattle.avs_ii.proofs.Loading.{meaning_parts, rest_parts, whole_parts, findable, disks_parts, shape_parts}
 use Rattle.avs_ii.proofs.group.IiGroup.into_parts.Goals as goal
 
 pub returns-clause-meaning : goal.returns-clause-meaning
@@ -17,11 +18,11 @@ returns-clause-meaning g c =
     let i = c.self.inside in
     let seen = g.D.Disk.seen in
     let parts : part_disks seen c.all_parts.result ≡ parts_of c.args.self = c.all_parts.ensures
-    ∙ ap (λ (l : List SetDisks). record { state = seen i.state; volumes = map seen i.volumes.items; sets = l; overs = [] }) c.close_all.ensures.parts
+    ∙ ap (λ (l : List SetDisks). record { state = seen i.state; volumes = map seen i.volumes.items; sets = l; overs = [] }) c.close_all.ensures
     ∙ ap (λ (d : IiDisks). parts_of d) c.self.view_is in
     ap (λ (p : PartDisks). meaning_of_parts p) parts
     ∙ subst (λ (d : IiDisks). meaning_of_parts (parts_of d) ≡ meaning d) c.self.view_is
-    (meaning_parts (seen i.state) i.block (map seen i.volumes.items) (sets_of i.set) (at_most_one i.set) c.self.invariant.0 c.close_all.ensures.on)
+    (meaning_parts (seen i.state) i.block (map seen i.volumes.items) (sets_of i.set) (at_most_one i.set) c.self.invariant.0)
 
 pub returns-clause-rest : goal.returns-clause-rest
 returns-clause-rest g c =
@@ -35,9 +36,31 @@ returns-clause-whole g c =
     let i = c.self.inside in
     let seen = g.D.Disk.seen in
     let parts : part_disks seen c.all_parts.result ≡ parts_of c.args.self = c.all_parts.ensures
-    ∙ ap (λ (l : List SetDisks). record { state = seen i.state; volumes = map seen i.volumes.items; sets = l; overs = [] }) c.close_all.ensures.parts
+    ∙ ap (λ (l : List SetDisks). record { state = seen i.state; volumes = map seen i.volumes.items; sets = l; overs = [] }) c.close_all.ensures
     ∙ ap (λ (d : IiDisks). parts_of d) c.self.view_is in
     λ sound told.
     subst (λ (p : PartDisks). AreWhole p) (sym parts)
     (subst (λ (d : IiDisks). IsSound d → AreWhole (parts_of d)) c.self.view_is
-    (whole_parts (seen i.state) i.block (map seen i.volumes.items) (sets_of i.set) (at_most_one i.set) c.self.invariant.0 c.close_all.ensures.on) sound)
+    (λ s. whole_parts (seen i.state) i.block (map seen i.volumes.items) (sets_of i.set) (at_most_one i.set) c.self.invariant.0 s.holds (findable i.block.slots (map seen i.volumes.items) (sets_of i.set) (at_most_one i.set) s.disks)) sound)
+
+pub returns-clause-disks : goal.returns-clause-disks
+returns-clause-disks g c =
+    let i = c.self.inside in
+    let seen = g.D.Disk.seen in
+    let parts : part_disks seen c.all_parts.result ≡ parts_of c.args.self = c.all_parts.ensures
+    ∙ ap (λ (l : List SetDisks). record { state = seen i.state; volumes = map seen i.volumes.items; sets = l; overs = [] }) c.close_all.ensures
+    ∙ ap (λ (d : IiDisks). parts_of d) c.self.view_is in
+    ap (λ (p : PartDisks). disks_in p) parts
+    ∙ subst (λ (d : IiDisks). disks_in (parts_of d) ≡ disks_of d) c.self.view_is
+    (disks_parts (seen i.state) i.block (map seen i.volumes.items) (sets_of i.set) (at_most_one i.set))
+
+pub returns-clause-shape : goal.returns-clause-shape
+returns-clause-shape g c =
+    let i = c.self.inside in
+    let seen = g.D.Disk.seen in
+    let parts : part_disks seen c.all_parts.result ≡ parts_of c.args.self = c.all_parts.ensures
+    ∙ ap (λ (l : List SetDisks). record { state = seen i.state; volumes = map seen i.volumes.items; sets = l; overs = [] }) c.close_all.ensures
+    ∙ ap (λ (d : IiDisks). parts_of d) c.self.view_is in
+    ap (λ (p : PartDisks). parts_shape p) parts
+    ∙ subst (λ (d : IiDisks). parts_shape (parts_of d) ≡ shape_of d) c.self.view_is
+    (shape_parts (seen i.state) i.block (map seen i.volumes.items) (sets_of i.set) (at_most_one i.set) c.self.invariant.0)

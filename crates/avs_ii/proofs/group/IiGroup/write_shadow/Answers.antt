@@ -4,7 +4,7 @@ use Rattle.avs_ii.specs.Opened.{sets_of}
 use Rattle.avs_ii.proofs.Belows.{as_group}
 use Rattle.avs_ii.proofs.Views.{held_some, room_some}
 use Rattle.avs_ii.proofs.Shadows.{writes_none}
-use Rattle.avs_ii.proofs.ShadowViews.{none_set, master_there, other_set, master_size, shadow_inside, write_set, write_set_kept}
+use Rattle.avs_ii.proofs.ShadowViews.{none_set, whole_as, master_there, other_set, master_size, shadow_inside, write_set, write_set_kept}
 use Rattle.avs_ii.proofs.group.IiGroup.write_shadow.Goals as goal
 
 pub is_named-requires : goal.is_named-requires
@@ -45,9 +45,9 @@ returns-then-is_named g c =
 pub returns-in-Some : goal.returns-in-Some
 returns-in-Some g c =
     let i = c.self.inside in
-    let r = writes_none c.args.self.now c.args.set c.args.at c.args.bytes.now (other_set g.D.Disk.seen (g.D.Disk.seen i.state) i.block i.volumes.items i.set c.args.self.now c.self.view_is c.in-Some.held c.in-Some.is c.self.invariant.0 c.args.set (sym c.is_named.ensures ∙ c.if-is_named.false)) in rw (ap (λ (s : Option (Held g.row.D.Denot)). as_group (g.D.Disk.seen i.state) i.block (map g.D.Disk.seen i.volumes.items) (sets_of s)) (sym c.in-Some.is) ∙ c.self.view_is) r
+    let r = writes_none c.args.self.now c.args.set c.args.at c.args.bytes.now (whole_as (g.D.Disk.seen i.state) i.block (map g.D.Disk.seen i.volumes.items) i.set c.args.self.now c.self.view_is c.self.invariant.0) (other_set g.D.Disk.seen (g.D.Disk.seen i.state) i.block i.volumes.items i.set c.args.self.now c.self.view_is c.in-Some.held c.in-Some.is c.self.invariant.0 c.args.set (sym c.is_named.ensures ∙ c.if-is_named.false)) in rw (ap (λ (s : Option (Held g.row.D.Denot)). as_group (g.D.Disk.seen i.state) i.block (map g.D.Disk.seen i.volumes.items) (sets_of s)) (sym c.in-Some.is) ∙ c.self.view_is) r
 
 pub returns : goal.returns
 returns g c =
     let i = c.self.inside in
-    let r = writes_none c.args.self.now c.args.set c.args.at c.args.bytes.now (none_set (g.D.Disk.seen i.state) i.block (map g.D.Disk.seen i.volumes.items) i.set c.args.self.now c.args.set c.self.view_is c.in_default.is) in rw c.self.view_is r
+    let r = writes_none c.args.self.now c.args.set c.args.at c.args.bytes.now (whole_as (g.D.Disk.seen i.state) i.block (map g.D.Disk.seen i.volumes.items) i.set c.args.self.now c.self.view_is c.self.invariant.0) (none_set (g.D.Disk.seen i.state) i.block (map g.D.Disk.seen i.volumes.items) i.set c.args.self.now c.args.set c.self.view_is c.in_default.is) in rw c.self.view_is r
