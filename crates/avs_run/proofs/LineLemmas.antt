@@ -15,13 +15,13 @@ use Rattle.avs_model.proofs.Runs.{RunTo-more, text-more}
 use Rattle.avs_model.specs.declared.event.Event.{Event}
 use Rattle.avs_model.specs.declared.event.Statement.TheVariants.{Nothing, Run}
 use Rattle.avs_model.specs.declared.answer.Answer.{Answer}
-use Rattle.avs_run.specs.World.{Stands, Steps}
+use Rattle.avs_world.specs.World.{Stands, Steps}
 use Rattle.avs_run.specs.Run.{SoFar}
 use Rattle.avs_run.specs.Ends.{EndsIn, Printed}
 use Rattle.avs_run.specs.Bad.{TellsBad}
 use Rattle.avs_run.specs.declared.end.End.{End}
 use Rattle.avs_run.specs.declared.end.End.TheVariants.{Whole, BadLine, SourceFault, SinkFault, RackFault, NoMemory, OverBudget}
-use Rattle.avs_run.specs.declared.world.World.{World}
+use Rattle.avs_world.specs.declared.world.World.{World}
 
 one_more : (lines : List (List ℕ)) (line : List ℕ) → length (lines ++ line ∷ []) ≡ length lines + 1
 one_more lines line = omega (arith, length-append lines (line ∷ []))

@@ -19,7 +19,7 @@ use Rattle.avs_run.specs.Bad.{TellsBad}
 use Rattle.std.specs.Prelude.{Result}
 use Rattle.std.proofs.Common.{Ok, Err}
 use Rattle.avs_run.specs.Run.{SoFar, RunsLine, Turns}
-use Rattle.avs_run.specs.declared.world.World.{World}
+use Rattle.avs_world.specs.declared.world.World.{World}
 use Rattle.avs_run.specs.declared.end.End.{End}
 use Rattle.avs_run.specs.declared.end.End.TheVariants as end
 use Rattle.avs_run.proofs.LineLemmas.{cut_by_memory, bad_ends}

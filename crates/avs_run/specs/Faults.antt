@@ -1,6 +1,6 @@
 -- Which end of a run a fault becomes.
-use Rattle.avs_run.specs.declared.world.WorldFault.{WorldFault}
-use Rattle.avs_run.specs.declared.world.WorldFault.TheVariants as world
+use Rattle.avs_world.specs.declared.world.WorldFault.{WorldFault}
+use Rattle.avs_world.specs.declared.world.WorldFault.TheVariants as world
 use Rattle.avs_run.specs.declared.end.End.{End}
 use Rattle.avs_run.specs.declared.end.End.TheVariants as end
 

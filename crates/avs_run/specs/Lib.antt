@@ -1,5 +1,3 @@
-pub mod Torn
-pub mod World
 pub mod Faults
 pub mod Ends
 pub mod Run

@@ -10,9 +10,9 @@ use Rattle.avs_model.specs.State.{State, start}
 use Rattle.avs_model.specs.Good.{RunTo}
 use Rattle.avs_model.specs.Promise.{Wrote}
 use Rattle.avs_model.specs.declared.answer.Answer.{Answer}
-use Rattle.avs_run.specs.World.{Stands}
+use Rattle.avs_world.specs.World.{Stands}
 use Rattle.avs_run.specs.Ends.{status_of, EndsIn, Printed}
-use Rattle.avs_run.specs.declared.world.World.{World}
+use Rattle.avs_world.specs.declared.world.World.{World}
 use Rattle.avs_run.specs.declared.end.End.{End}
 
 -- the lines given so far are done: their events are answered, the answers are printed, and the world stands for the state behind them

@@ -1,4 +1,4 @@
-//! Runs scripts: the top call, and the world of host p that it steps.
+//! Runs scripts: the top call, and what a line does and prints.
 #![tactic(auto)]
 
 mod end;
@@ -6,7 +6,5 @@ mod line;
 mod print;
 mod run;
 mod script;
-mod stopped;
-mod world;
 
 pub use script::run_script;

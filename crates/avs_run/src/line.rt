@@ -9,11 +9,11 @@ ghost use Rattle.avs_run.specs.Bad.{TellsBad};
 
 use crate::end::End;
 use crate::print::{PrintFault, print_answer, print_bad_line};
-use crate::world::{World, WorldFault};
 use avs_dev::Rack;
 use avs_io::Sink;
 use avs_model::{Event, Statement};
 use avs_script::{LineError, read_line};
+use avs_world::{World, WorldFault};
 use std::alloc::Global;
 
 /// Prints that a line is no statement, by which the run ends.

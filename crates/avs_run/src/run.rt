@@ -10,9 +10,9 @@ ghost use Rattle.avs_run.specs.Run.{Turns};
 
 use crate::end::End;
 use crate::line::{run_line, tell_bad_line};
-use crate::world::World;
 use avs_dev::Rack;
 use avs_io::{LineFault, Lines, Next, Sink, Source};
+use avs_world::World;
 use std::alloc::Global;
 
 // Does the next line. An error ends the run.

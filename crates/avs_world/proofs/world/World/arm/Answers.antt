@@ -1,0 +1,54 @@
+use Rattle.std.proofs.Common.{◌≡◌, ◌∙◌, Bool, true, false, refl, sym, subst, inr}
+use Rattle.avs_model.specs.State.{disk_place, with_armed}
+use Rattle.avs_model.specs.declared.event.Event.TheVariants.{Arm}
+use Rattle.avs_model.specs.declared.event.Host.TheVariants.{P}
+use Rattle.avs_world.specs.Arming.{ArmsTarget}
+use Rattle.avs_world.specs.Holds.{Holds, IsPhase}
+use Rattle.avs_world.specs.Views.{StoreView, view_of}
+use Rattle.avs_world.specs.World.{Stands}
+use Rattle.avs_world.specs.declared.world.World.{World}
+use Rattle.avs_world.proofs.Armed.{are_sure, next_none, next_up, target_armed, target_passes, target_unarmed}
+use Rattle.avs_world.proofs.Standing.{refused_step, stands_up, up_holds, up_kept, up_none, up_phase}
+use Rattle.avs_world.proofs.world.World.arm.Goals as goal
+
+pub returns-in-Ok-true-clause-steps : goal.returns-in-Ok-true-clause-steps
+returns-in-Ok-true-clause-steps g c steady s stands =
+    let seen = g.D.Disk.seen in
+    let old = c.args.self.now in
+    let new = c.arm_target.new.self in
+    let target = c.args.target.now in
+    let up : old.up ≡ true = c.in-Ok-true.ensures.was_up in
+    let s_up : s.p.up ≡ true = sym stands.up ∙ up in
+    let holds = up_holds seen steady old s stands up in
+    let phase = up_phase seen steady old s stands up in
+    let arms = subst (λ (b : Bool). ArmsTarget (view_of seen old) target b (view_of seen new)) c.in-Ok-true.field-0-test c.in-Ok-true.ensures.arms in
+    let next = with_armed s P (disk_place s.p target) true in
+    let made = target_armed steady (view_of seen old) (view_of seen new) s holds phase target arms in (
+      next,
+      record { right = (target_passes steady (view_of seen old) (view_of seen new) s holds phase true target arms c.args.tear.skip c.args.tear.from c.args.tear.count s_up, refl); next = refl },
+      stands_up seen steady new next (c.arm_target.ensures.up ∙ up) (next_up s target s_up) (next_none s target (up_none seen steady old s stands up))
+          (c.arm_target.ensures.stopped ∙ up_kept seen steady old s stands up) made.0 made.1,
+    )
+
+pub returns-in-Ok-false-clause-steps : goal.returns-in-Ok-false-clause-steps
+returns-in-Ok-false-clause-steps g c steady s stands =
+    let seen = g.D.Disk.seen in
+    let old = c.args.self.now in
+    let new = c.arm_target.new.self in
+    let target = c.args.target.now in
+    let up : old.up ≡ true = c.in-Ok-false.ensures.was_up in
+    let s_up : s.p.up ≡ true = sym stands.up ∙ up in
+    let holds = up_holds seen steady old s stands up in
+    let phase = up_phase seen steady old s stands up in
+    let arms = subst (λ (b : Bool). ArmsTarget (view_of seen old) target b (view_of seen new)) c.in-Ok-false.field-0-test c.in-Ok-false.ensures.arms in
+    let none = target_unarmed steady (view_of seen old) (view_of seen new) s holds phase (are_sure seen g.met.D.Arm.steady_arms old.shelf.places.items) target arms in (
+      s,
+      record { right = inr (none.1, target_passes steady (view_of seen old) (view_of seen new) s holds phase false target arms c.args.tear.skip c.args.tear.from c.args.tear.count s_up, refl); next = refl },
+      stands_up seen steady new s (c.arm_target.ensures.up ∙ up) s_up (up_none seen steady old s stands up) (c.arm_target.ensures.stopped ∙ up_kept seen steady old s stands up)
+          (subst (λ (store : StoreView). Holds steady store s) (sym none.0) holds) (subst (λ (store : StoreView). IsPhase true store.group) (sym none.0) phase),
+    )
+
+pub returns-in-Err-clause-steps : goal.returns-in-Err-clause-steps
+returns-in-Err-clause-steps g c steady s stands =
+    let r = refused_step g.D.Disk.seen steady c.args.self.now s (Arm P c.args.target.now c.args.tear.skip c.args.tear.from c.args.tear.count) c.in-Err.why stands (c.in-Err.ensures.refused steady s stands) in
+    (r.0, r.1, subst (λ (w : World g.row.D.Denot). Stands g.D.Disk.seen steady w r.0) (sym c.in-Err.ensures.same) r.2)

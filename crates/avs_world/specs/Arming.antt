@@ -1,0 +1,50 @@
+-- What arming a tear makes of the disks of a world.
+use Rattle.std.specs.Prelude.{◌≡◌, ℕ, ◌<◌, Bool, true, false, Some, List, length, position, slice_get}
+use Rattle.std.specs.Str.{bytes_eq}
+use Rattle.avs_model.specs.declared.answer.Role.{Role}
+use Rattle.avs_model.specs.declared.answer.Role.TheVariants.{Master, Shadow, Bitmap, Plain}
+use Rattle.avs_model.specs.declared.event.ArmTarget.{ArmTarget}
+use Rattle.avs_model.specs.declared.event.ArmTarget.TheVariants as disk
+use Rattle.avs_ii.specs.Held.{IiDisks}
+use Rattle.avs_ii.specs.Calls.{ArmsGroup}
+use Rattle.avs_world.specs.Views.{GroupView, NoGroup, FreeDisk, InMemory, OnDisks, StoreView}
+use Rattle.avs_world.specs.Ranges.{disk_here, role_by}
+use Rattle.avs_world.specs.Places.{ArmsPlace}
+use Rattle.avs_world.specs.Causes.{number_of}
+
+-- a tear is armed on a disk of the group in memory, by its number; where no group is there, nothing changes
+abbrev pub ArmsView : GroupView → ℕ → Bool → GroupView → Type 0
+ArmsView NoGroup number result new = (result ≡ false) × (new ≡ NoGroup)
+ArmsView (FreeDisk disk) number result new = (result ≡ false) × (new ≡ FreeDisk disk)
+ArmsView (InMemory set held) number result new = (held_new : IiDisks) × (ArmsGroup held number result held_new) × (new ≡ InMemory set held_new)
+ArmsView (OnDisks set parts) number result new = (result ≡ false) × (new ≡ OnDisks set parts)
+
+-- on the disk of a volume: where it is, by what the volume serves as
+pub record ArmsHere (old : StoreView) (place : ℕ) (result : Bool) (new : StoreView) : Type 0 where
+  pub arms : ArmsPlace (disk_here (slice_get old.places place)) old.places place result new.places
+  pub is : new ≡ record old { places = new.places }
+
+pub record ArmsLent (old : StoreView) (number : ℕ) (result : Bool) (new : StoreView) : Type 0 where
+  pub arms : ArmsView old.group number result new.group
+  pub is : new ≡ record old { group = new.group }
+
+abbrev pub ArmsBy : Role → StoreView → ℕ → Bool → StoreView → Type 0
+ArmsBy Plain old place result new = ArmsHere old place result new
+ArmsBy Master old place result new = ArmsLent old (number_of Master) result new
+ArmsBy Shadow old place result new = ArmsLent old (number_of Shadow) result new
+ArmsBy Bitmap old place result new = ArmsLent old (number_of Bitmap) result new
+
+abbrev pub ArmsVolume : StoreView → ℕ → Bool → StoreView → Type 0
+ArmsVolume old place result new = ArmsBy (role_by old.group place) old place result new
+
+-- whether the group in memory has that name
+abbrev pub is_group : GroupView → List ℕ → Bool
+is_group NoGroup name = false
+is_group (FreeDisk disk) name = false
+is_group (InMemory set held) name = bytes_eq set.name name
+is_group (OnDisks set parts) name = false
+
+-- on the disk that a target names
+abbrev pub ArmsTarget : StoreView → ArmTarget → Bool → StoreView → Type 0
+ArmsTarget old (disk.Volume name) result new = (place : ℕ) × (position (bytes_eq name) old.names ≡ Some place) × (place < length old.places) × ArmsVolume old place result new
+ArmsTarget old (disk.StateOf group) result new = (is_group old.group group ≡ true) × ArmsLent old (number_of Plain) result new

@@ -1,0 +1,11 @@
+pub mod Torn
+pub mod Views
+pub mod Holds
+pub mod Ranges
+pub mod Causes
+pub mod Places
+pub mod Calls
+pub mod Enabling
+pub mod Recovering
+pub mod Arming
+pub mod World
