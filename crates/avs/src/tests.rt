@@ -9,8 +9,12 @@ use std::alloc::Global;
 use std::process::Abort;
 use std::test::Fail;
 
+mod enabling;
 mod faults;
 mod filled;
+mod rows;
+mod shadows;
+mod walks;
 
 const ROW: &[u8] =
     b"volume p /v/a 64\nwrite p /v/a 63 1 ab\nread p /v/a 62 2\nread p /v/a 63 2\nvolume p /v/a 64\nvolume p /v/z 300000\n";

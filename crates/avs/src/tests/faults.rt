@@ -6,12 +6,7 @@ use std::test::Fail;
 
 #[test]
 fn faults_are_answered(rt: HostRuntime) -> Result<(), Fail> {
-    let cases: [(&[u8], u8, &[u8]); 12] = [
-        (
-            b"volume p /v/a 256\narm p /v/a 0 1 2\nwrite p /v/a 100 4 55\nrecover p\nread p /v/a 100 4\n",
-            0,
-            b"ok\nok\nrefused Fault p\nup p\ntorn /v/a 100 1 2\ndata 1*00 2*55 1*00\n",
-        ),
+    let cases: [(&[u8], u8, &[u8]); 11] = [
         (
             b"volume p /v/a 64\nwrite p /v/a 0 1 11\ncrash p\nread p /v/a 0 1\ncrash p\nrecover p\nread p /v/a 0 1\nrecover p\n",
             0,
@@ -212,4 +207,18 @@ fn the_sink_cuts_what_is_told_of_a_recovery(rt: HostRuntime) -> Result<(), Fail>
         assert!(rt; whole.starts_with(&written));
     }
     Ok(())
+}
+
+#[test]
+fn a_group_is_looked_for_again_where_its_disks_failed(rt: HostRuntime) -> Result<(), Fail> {
+    let script =
+        b"volume p /v/a 128\nvolume p /s/a 128\nvolume p /c/a 64\niiadm p -e dep /v/a /s/a /c/a\nwrite p /v/a 5 1 11\ncrash p\nrecover p\nread p /s/a 5 1\nrecover p\nread p /v/a 4 3\nread p /s/a 4 3\n".as_slice();
+    // Its fifth call is the first of the recovery on the bitmap.
+    let disks = Outside {
+        disks: &[5],
+        ..FAIR
+    };
+    let want =
+        b"ok\nok\nok\nok\nok\ndown p\nrefused Fault p\nrefused Down p\nup p\nclean\ngroup /s/a plain session 0 at 0\nset /s/a left 0\ndata 1*00 1*11 1*00\ndata 3*00\n";
+    check(&rt, rt.alloc(), script, disks, 0, want)
 }
