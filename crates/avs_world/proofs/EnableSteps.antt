@@ -1,6 +1,6 @@
 -- The step of enabling a set, by what its calls leave.
 use Rattle.std.proofs.Common.{◌≡◌, ◌≢◌, ◌⊎◌, ℕ, ◌≤◌, Bool, true, false, not, cond, ◌==◌, Option, Some, None, List, [], length, refl, sym, ◌∙◌, ap, subst, inl, inr, arith}
-use Rattle.std.specs.Prelude.{if◌then◌else◌, IsTrue, Ok, Err}
+use Rattle.std.specs.Prelude.{if◌then◌else◌, IsTrue, Ok, Err, is_some}
 use Rattle.std.specs.List.{slice_get, list_all}
 use Rattle.std.specs.Option.{option_map_or}
 use Rattle.std.proofs.lemmas.Bool.{false≢true, cases_Bool, cond-true}
@@ -92,7 +92,7 @@ rose_before a b c less rose = omega arith
 -- The causes of a fault.
 module _ (store : StoreView) (rack : RackSeen) (disk : Seen) (left : GroupView) (free : IsFree store.group) (takes : TakesState store.group rack disk left) where
   pub start_cause : (places : List (Place Seen)) (new : Seen) → FailsOpening disk new → DiskRose store (record store { places = places; group = FreeDisk new })
-  start_cause places new fails = (InGroup 0, rose_before (faults_of store (InGroup 0)) disk.faults new.faults (taken_faults rack disk store.group left free takes) fails.rose)
+  start_cause places new fails = (InGroup 0, refl, rose_before (faults_of store (InGroup 0)) disk.faults new.faults (taken_faults rack disk store.group left free takes) fails.rose)
 
 -- why a set does not wait in a new group: the bitmap's disk failed
 only_fault : (held : IiDisks) (shadow bitmap shadow_new bitmap_new : Seen) (why : Refusal) → EnableRefused held Dep 0 shadow bitmap why shadow_new bitmap_new → why ≢ NoMemory → limit_at held Dep ≡ None
@@ -157,7 +157,7 @@ module _ (store : StoreView) (rack : RackSeen) (disk : Seen) (left : GroupView) 
           let before = taken_faults rack disk store.group left free takes in
           let less : faults_of store (InGroup 0) ≤ fills.held_mid.state.faults = omega (arith, later, before) in
           subst (λ (g : GroupView). DiskRose store (record store { places = places_new; group = g })) (sym commits.is)
-          (InGroup 0, rose_before (faults_of store (InGroup 0)) fills.held_mid.state.faults commits.held_new.state.faults less failed.cause.failed)
+          (InGroup 0, refl, rose_before (faults_of store (InGroup 0)) fills.held_mid.state.faults commits.held_new.state.faults less failed.cause.failed)
       by (inr fills) =
           let back = is_back disk held opens store.places chosen name places_new new lends fills in
           let bitmap = lends.three.bitmap_disk in
@@ -167,7 +167,7 @@ module _ (store : StoreView) (rack : RackSeen) (disk : Seen) (left : GroupView) 
           ap (λ (l : List (Place Seen)). disk_here (slice_get l chosen.bitmap)) (back.places_are ∙ given_back store.places chosen lends.three name back.bitmap_new)
           ∙ ap disk_here (slice_get-set store.places chosen.bitmap (Spent back.bitmap_new) (slice_get_within store.places chosen.bitmap there lends.three.bitmap_here)) in
           let faults : Option Seen → ℕ = λ o. option_map_or (λ d. d.faults) o 0 in
-          (AtPlace chosen.bitmap, subst (λ n. Rose n (faults (disk_here (slice_get places_new chosen.bitmap)))) (sym (ap faults old)) (subst (λ n. Rose bitmap.faults n) (sym (ap faults now)) back.fails.rose))
+          (AtPlace chosen.bitmap, ap is_some old, subst (λ n. Rose n (faults (disk_here (slice_get places_new chosen.bitmap)))) (sym (ap faults old)) (subst (λ n. Rose bitmap.faults n) (sym (ap faults now)) back.fails.rose))
 
 -- The state then.
 module _ (steady : Bool) (store : StoreView) (state : State) (master shadow bitmap : List ℕ) (chosen : Chosen) (is : IsChosen store master shadow bitmap chosen) (holds : Holds steady store state)
@@ -247,9 +247,10 @@ down_closed (OnDisks set parts) = refl
 pub rose_closed : (old store : StoreView) (group : GroupView) → SameApart group → DiskRose old (record store { group = group }) → DiskRose old (record store { group = closed group })
 rose_closed old store NoGroup same rose = rose
 rose_closed old store (FreeDisk disk) same rose = rose
-rose_closed old store (InMemory set held) same (AtPlace place, rose) = (AtPlace place, rose)
-rose_closed old store (InMemory set held) same (InGroup number, rose) = (
+rose_closed old store (InMemory set held) same (AtPlace place, there, rose) = (AtPlace place, there, rose)
+rose_closed old store (InMemory set held) same (InGroup number, there, rose) = (
   InGroup number,
+  there,
   subst (λ (l : List Seen). Rose (faults_of old (InGroup number)) (option_map_or (λ (d : Seen). d.faults) (slice_get l number) 0)) (sym same.disks) rose,
 )
 rose_closed old store (OnDisks set parts) same rose = rose

@@ -1,10 +1,11 @@
 -- A group that is found on its disks, and a set that is given up.
 use Rattle.std.proofs.Common.{inl, inr, Err, ◌≡◌, ℕ, ◌≤◌, Bool, true, false, not, cond, ◌&&◌, Option, None, Some, List, [], ◌∷◌, length, map, refl, sym, ◌∙◌, ap, subst, arith}
-use Rattle.std.specs.Prelude.{slice_set, if◌then◌else◌, find, ◌==◌}
+use Rattle.std.specs.Prelude.{slice_set, if◌then◌else◌, find, ◌==◌, ◌||◌, is_some}
 use Rattle.std.specs.List.{list_all, slice_get}
 use Rattle.std.specs.Option.{option_map, option_map_or}
-use Rattle.std.proofs.lemmas.Bool.{false≢true, cases_Bool}
-use Rattle.std.proofs.lemmas.List.{map-set}
+use Rattle.std.proofs.lemmas.Bool.{false≢true, cases_Bool, cases_lt}
+use Rattle.std.proofs.lemmas.Option.{slice_get_past}
+use Rattle.std.proofs.lemmas.List.{length-map, map-set}
 use Rattle.avs_dev.specs.Devices.{NoneFell}
 use Rattle.avs_dev.specs.Seen.{Seen}
 use Rattle.avs_code.specs.declared.group_blocks.GroupBlock.{GroupBlock}
@@ -24,7 +25,7 @@ use Rattle.avs_world.specs.Views.{GroupView, FreeDisk, InMemory, OnDisks, StoreV
 use Rattle.avs_world.specs.Holds.{Shown, gone, kept, plain, plain_or_gone, shown, shown_with, is_enabled, AreGroups, IsStateDisk, HoldsSet, HoldsBy, IsPhase}
 use Rattle.avs_world.specs.Places.{place_of}
 use Rattle.avs_world.specs.Enabling.{places_back}
-use Rattle.avs_world.specs.Causes.{DiskName, AtPlace, InGroup, faults_of}
+use Rattle.avs_world.specs.Causes.{DiskName, AtPlace, InGroup, faults_of, was_there}
 use Rattle.avs_dev.specs.declared.back.Why.{Why}
 use Rattle.avs_dev.specs.declared.back.Why.TheVariants.{Size, BadRecord, NoMemory, Fault}
 use Rattle.avs_world.specs.Recovering.{FoundBy, IsFound, Finds, Settles, second_by}
@@ -32,7 +33,7 @@ use Rattle.avs_model.specs.declared.recovered.Second.TheVariants.{Kept, Done}
 use Rattle.avs_world.proofs.Holding.{three_volumes}
 use Rattle.avs_world.proofs.OneSet.{one_element, IsOneSet, one_held}
 use Rattle.avs_world.proofs.Staying.{count_at}
-use Rattle.avs_world.proofs.Reading.{rose_in}
+use Rattle.avs_world.proofs.Reading.{rose_in, there_in}
 
 -- Disks that differ in their counts of faults alone.
 
@@ -138,10 +139,28 @@ pub none_fell : (old new : List Seen) (k : ℕ) → NoneFell (map (λ (d : Seen)
     → option_map_or (λ (d : Seen). d.faults) (slice_get old k) 0 ≤ option_map_or (λ (d : Seen). d.faults) (slice_get new k) 0
 none_fell old new k none = omega (arith, none.each k, count_at (λ (d : Seen). d.faults) old k, count_at (λ (d : Seen). d.faults) new k)
 
+-- lists as long as each other have disks at the same places
+same_there : (xs ys : List Seen) (k : ℕ) → length xs ≡ length ys → is_some (slice_get xs k) ≡ is_some (slice_get ys k)
+same_there xs ys k same = elim (cases_lt k (length xs)) [
+  | inl within ↦ there_in xs k within ∙ sym (there_in ys k (omega (arith, same, within)))
+  | inr past ↦ ap is_some (slice_get_past xs k past) ∙ sym (ap is_some (slice_get_past ys k (omega (arith, same, past))))
+]
+
 found_later : (store : StoreView) (set : ShadowSet) (parts : PartDisks) (held : IiDisks) → Loads parts held → (name : DiskName)
     → faults_of (record store { group = OnDisks set parts }) name ≤ faults_of (record store { group = InMemory set held }) name
 found_later store set parts held loads (AtPlace place) = omega arith
 found_later store set parts held loads (InGroup number) = none_fell (disks_in parts) (disks_of held) number loads.later
+
+found_there : (store : StoreView) (set : ShadowSet) (parts : PartDisks) (held : IiDisks) → Loads parts held → (name : DiskName)
+    → was_there (record store { group = InMemory set held }) name ≡ true → was_there (record store { group = OnDisks set parts }) name ≡ true
+found_there store set parts held loads (AtPlace place) there = there
+found_there store set parts held loads (InGroup number) there = ap (λ (b : Bool). number == 0 || b) same ∙ there
+  where
+    count : length (disks_of held) ≡ length (disks_in parts)
+    count = sym (length-map (disks_of held) (λ (d : Seen). d.faults)) ∙ loads.later.same_length ∙ length-map (disks_in parts) (λ (d : Seen). d.faults)
+
+    same : is_some (slice_get (disks_in parts) number) ≡ is_some (slice_get (disks_of held) number)
+    same = same_there (disks_in parts) (disks_of held) number (sym count)
 
 pub is_found : (store : StoreView) (set : ShadowSet) (parts : PartDisks) (held : IiDisks) → Loads parts held → IsFound (record store { group = OnDisks set parts }) (record store { group = InMemory set held })
 is_found store set parts held loads = record {
@@ -158,6 +177,7 @@ is_found store set parts held loads = record {
     by = open_by steady store.names store.places set parts held state.p.volumes state.p.groups loads settled holds.by;
   };
   phase = refl;
+  there = found_there store set parts held loads;
   later = found_later store set parts held loads;
 }
 

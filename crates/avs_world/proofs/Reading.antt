@@ -1,10 +1,11 @@
 -- What reading blocks of a volume makes of a store.
-use Rattle.std.proofs.Common.{◌≡◌, ◌⊎◌, ℕ, ◌+◌, ◌/◌, ◌<◌, ◌≤◌, Bool, true, false, Option, None, Some, Ok, Err, List, [], ◌∷◌, length, map, slice_index, refl, sym, ◌∙◌, ap, subst, inl, inr, arith}
-use Rattle.std.specs.Prelude.{IsTrue, Result, OnErr, IsOk, slice_set}
+use Rattle.std.proofs.Common.{◌≡◌, ◌⊎◌, ℕ, zero, suc, ◌+◌, ◌/◌, ◌<◌, ◌≤◌, Bool, true, false, Option, None, Some, Ok, Err, List, [], ◌∷◌, length, map, slice_index, refl, sym, ◌∙◌, ap, subst, inl, inr, arith}
+use Rattle.std.specs.Prelude.{IsTrue, Result, OnErr, IsOk, slice_set, is_some, ◌||◌, ◌==◌}
 use Rattle.std.specs.List.{slice_get, position}
 use Rattle.std.specs.Option.{option_map_or}
 use Rattle.std.specs.Str.{bytes_eq}
 use Rattle.std.proofs.lemmas.Bool.{false≢true}
+use Rattle.std.proofs.lemmas.List.{length-map}
 use Rattle.std.proofs.lemmas.Option.{get_or_from_slice_get, slice_get_within}
 use Rattle.std.proofs.lemmas.Result.{on_ok_weaker, on_err_weaker}
 use Rattle.avs_seg.specs.Causes.{Rose}
@@ -87,6 +88,7 @@ rose_at old new k d d' result was is rose =
     on_err_weaker result
     (λ r. (
       AtPlace k,
+      ap is_some was,
       subst (λ (n : ℕ). Rose n (faults_of new (AtPlace k))) (sym (ap (λ (o : Option Seen). option_map_or (λ (x : Seen). x.faults) o 0) was))
           (subst (λ (n : ℕ). Rose d.faults n) (sym (ap (λ (o : Option Seen). option_map_or (λ (x : Seen). x.faults) o 0) is)) r),
     )) rose
@@ -240,10 +242,21 @@ group_reads steady old set held new state was is holds = record {
       (subst (λ (g : GroupView). HoldsBy steady old.names old.places g state.p.volumes state.p.groups) was holds.by);
 }
 
+-- a disk of a list is there
+pub there_in : (disks : List Seen) (k : ℕ) → k < length disks → is_some (slice_get disks k) ≡ true
+there_in [] k within = absurd (omega arith)
+there_in (d ∷ disks) zero within = refl
+there_in (d ∷ disks) (suc k) within = there_in disks k (omega arith)
+
+or_there : (a b : Bool) → b ≡ true → (a || b) ≡ true
+or_there a b is = grind arith
+
 -- one of its disks failed
 pub rose_in : (old new : StoreView) (before after : List Seen) → group_disks old.group ≡ before → group_disks new.group ≡ after → OneRose (map (λ (d : Seen). d.faults) before) (map (λ (d : Seen). d.faults) after) → DiskRose old new
 rose_in old new before after was is rose = (
   InGroup rose.device,
+  or_there (rose.device == 0) (is_some (slice_get (group_disks old.group) rose.device))
+      (ap (λ (l : List Seen). is_some (slice_get l rose.device)) was ∙ there_in before rose.device (omega (arith, rose.there, length-map before (λ (d : Seen). d.faults)))),
   subst (λ (n : ℕ). Rose n (faults_of new (InGroup rose.device)))
       (count_at (λ (d : Seen). d.faults) before rose.device ∙ ap (λ (l : List Seen). option_map_or (λ (d : Seen). d.faults) (slice_get l rose.device) 0) (sym was))
       (subst (λ (n : ℕ). Rose (slice_index (map (λ (d : Seen). d.faults) before) rose.device) n)

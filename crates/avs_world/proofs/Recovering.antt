@@ -46,7 +46,7 @@ use Rattle.avs_world.specs.declared.world.World.{World}
 use Rattle.avs_world.specs.Views.{GroupView, NoGroup, FreeDisk, InMemory, OnDisks, StoreView, store_view, group_view, view_of, closed, SameApart}
 use Rattle.avs_world.specs.Holds.{group_with, name_at, is_enabled, AreGroups, HoldsBy, Holds, IsPhase}
 use Rattle.avs_world.specs.Ranges.{role_in}
-use Rattle.avs_world.specs.Causes.{DiskName, AtPlace, InGroup, DiskRose, FaultHasCause, faults_of, group_disks}
+use Rattle.avs_world.specs.Causes.{DiskName, AtPlace, InGroup, DiskRose, FaultHasCause, faults_of, group_disks, was_there}
 use Rattle.avs_world.specs.World.{Stands, StopsCommand, Keeps, IsThere, IsExplained, event_of}
 use Rattle.avs_world.specs.Calls.{IsEnabled}
 use Rattle.avs_world.specs.Recovering.{IsLost, IsWaiting, second_by}
@@ -286,8 +286,9 @@ lost_stands seen steady old new s stands is_down same_up same_stopped lost =
     )
 
 -- counts of faults that rose after they had not fallen
-pub rose_later : (old mid new : StoreView) → ((name : DiskName) → faults_of old name ≤ faults_of mid name) → DiskRose mid new → DiskRose old new
-rose_later old mid new later rose = (rose.0, omega (arith, later rose.0, rose.1))
+pub rose_later : (old mid new : StoreView) → ((name : DiskName) → was_there mid name ≡ true → was_there old name ≡ true) → ((name : DiskName) → faults_of old name ≤ faults_of mid name)
+    → DiskRose mid new → DiskRose old new
+rose_later old mid new there later rose = (rose.0, there rose.0 rose.1, omega (arith, later rose.0, rose.2))
 
 -- A write was stopped.
 
@@ -347,4 +348,4 @@ rose_by old mid (InGroup number) same rose =
 
 pub rose_apart : (old mid new : StoreView) (answer : Answer) → SameApart mid.group → new ≡ record mid { group = closed mid.group } → answer ≡ answers.Faulted P → DiskRose old mid → FaultHasCause old new answer
 rose_apart old mid new answer same view is rose =
-    subst (λ (a : Answer). FaultHasCause old new a) (sym is) (subst (λ (v : StoreView). DiskRose old v) (sym view) (rose.0, rose_by old mid rose.0 same rose.1))
+    subst (λ (a : Answer). FaultHasCause old new a) (sym is) (subst (λ (v : StoreView). DiskRose old v) (sym view) (rose.0, rose.1, rose_by old mid rose.0 same rose.2))

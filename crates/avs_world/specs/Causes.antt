@@ -1,5 +1,5 @@
 -- The disks of a world by name: which of them failed, and which lets a tear be armed.
-use Rattle.std.specs.Prelude.{ℕ, not, IsTrue, ⊤, Option, Some, List, [], ◌∷◌, slice_get, position}
+use Rattle.std.specs.Prelude.{◌≡◌, ℕ, ◌==◌, ◌||◌, Bool, true, not, is_some, IsTrue, ⊤, Option, Some, List, [], ◌∷◌, slice_get, position}
 use Rattle.std.specs.Option.{option_map_or, option_and_then}
 use Rattle.std.specs.Str.{bytes_eq}
 use Rattle.avs_seg.specs.Causes.{Rose}
@@ -40,9 +40,14 @@ disk_named store (InGroup number) = slice_get (group_disks store.group) number
 abbrev pub faults_of : StoreView → DiskName → ℕ
 faults_of store name = option_map_or (λ d. d.faults) (disk_named store name) 0
 
+-- the disk had that name before, or it is that of the group's state, for which an event may ask: a new one has not failed
+abbrev pub was_there : StoreView → DiskName → Bool
+was_there store (AtPlace place) = is_some (disk_named store (AtPlace place))
+was_there store (InGroup number) = number == 0 || is_some (disk_named store (InGroup number))
+
 -- the faults of some disk rose
 abbrev pub DiskRose : StoreView → StoreView → Type 0
-DiskRose old new = (name : DiskName) × Rose (faults_of old name) (faults_of new name)
+DiskRose old new = (name : DiskName) × (was_there old name ≡ true) × Rose (faults_of old name) (faults_of new name)
 
 -- a fault is answered only where the faults of a disk rose
 abbrev pub FaultHasCause : StoreView → StoreView → Answer → Type 0

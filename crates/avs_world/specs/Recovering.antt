@@ -24,7 +24,7 @@ use Rattle.avs_world.specs.declared.stopped.StoppedWrite.{StoppedWrite}
 use Rattle.avs_world.specs.declared.world.World.{World}
 use Rattle.avs_world.specs.Views.{GroupView, NoGroup, FreeDisk, InMemory, OnDisks, StoreView}
 use Rattle.avs_world.specs.Holds.{Holds, HoldsBy, HoldsSet, IsPhase, is_enabled}
-use Rattle.avs_world.specs.Causes.{DiskName, DiskRose, faults_of}
+use Rattle.avs_world.specs.Causes.{DiskName, DiskRose, faults_of, was_there}
 use Rattle.avs_world.specs.Calls.{IsEnabled}
 use Rattle.avs_world.specs.World.{Stands, event_of}
 
@@ -47,11 +47,13 @@ pub record HoldsFound (steady : Bool) (store : StoreView) (state : State) : Type
   pub no_other : state.s ≡ empty_host
   pub by : FoundBy steady store.names store.places store.group state.p.volumes state.p.groups
 
--- the group is in memory, or there is none; where its set is enabled the store holds the same; and no count of faults has fallen
+-- the group is in memory, or there is none; where its set is enabled the store holds the same; no disk has a new name, and no
+-- count of faults has fallen
 pub record IsFound (old new : StoreView) : Type 0 where
   pub holds : (steady : Bool) (state : State) → Holds steady old state → IsPhase false old.group → HoldsFound steady new state
   pub enabled : (steady : Bool) (state : State) → Holds steady old state → IsPhase false old.group → IsEnabled old.group → Holds steady new state
   pub phase : IsPhase true new.group
+  pub there : (name : DiskName) → was_there new name ≡ true → was_there old name ≡ true
   pub later : (name : DiskName) → faults_of old name ≤ faults_of new name
 
 -- a disk failed while the group was looked for, and all is as before

@@ -218,7 +218,7 @@ impl<D: Arm> World<D> {
         }
     }
 
-    // All memory of the host is gone: its disks and their names stay.
+    // All memory of the host is gone: its disks stay, their names, which of them are spent, and which of them a set has.
     fn crash(&mut self, alloc: Global) -> Answer
         ensures steps { (steady : Bool) → Steps D.seen steady self.old (Event.Crash Host.P) result self.new }
         ensures cause { FaultHasCause (view_of D.seen self.old) (view_of D.seen self.new) result }
