@@ -1,14 +1,14 @@
 -- A set of segments: what its disk holds, and what each call makes of it.
 use Rattle.std.specs.Prelude.{◌≡◌, ◌⊎◌, ℕ, ◌+◌, ◌-◌, ◌*◌, ◌/◌, ◌<◌, ◌≤◌, min, ◌==◌, ◌&&◌, nat_lt, Bool, true, false, not, IsTrue, List, length, ◌^◌, if◌then◌else◌, Option, Some, None, Result, OnOk, OnErr, IsOk}
-use Rattle.avs_seg.specs.Image.{Image, Block, block_at, blocks_of, IsMix, ChangesWithin}
+use Rattle.avs_seg.specs.Image.{Image, block_at, blocks_of, IsMix, ChangesWithin}
 use Rattle.avs_seg.specs.Segment.{seg_count}
 use Rattle.avs_seg.specs.Causes.{HasCause, Rose}
 use Rattle.avs_dev.specs.Seen.{Seen, IsTold, UsesTear}
 use Rattle.avs_dev.specs.declared.back.Why.{Why}
 use Rattle.avs_dev.specs.declared.back.Why.TheVariants.{Size, BadRecord, NoMemory, Fault}
-use Rattle.avs_code.specs.Label.{IsLabel, label_rules}
-use Rattle.avs_code.specs.Rules.{first_broken}
+use Rattle.avs_code.specs.Label.{IsLabel, IsBadLabel, label_for}
 use Rattle.avs_code.specs.declared.labels.Label.{Label}
+use Rattle.avs_code.specs.declared.labels.LabelUse.{LabelUse}
 use Rattle.avs_bits.specs.Bit.{bit_of, disk_bit, IsPut, is_due, due_below, due_count, raised}
 
 -- the bits of segments lie behind the block of the label
@@ -92,27 +92,13 @@ pub record IsSmall (old : Seen) (segs need have : ℕ) (new : Seen) : Type 0 whe
   pub less : have < need
   pub kept : new ≡ old
 
--- the kind of the label of an import bitmap, and of a mirror bitmap
-abbrev pub bitmap_kind : Bool → ℕ
-bitmap_kind import = if import then 9 else 4
+-- what the label of an import bitmap, or of a mirror bitmap, says of a volume of so many blocks
+abbrev pub bitmap_use : Bool → ℕ → LabelUse
+bitmap_use import blocks = record { kind = if import then 9 else 4; blocks = blocks; segments = seg_count blocks }
 
--- the label of a bitmap that serves a volume of so many blocks
+-- the label of such a bitmap
 abbrev pub bitmap_label : Bool → ℕ → ℕ → Label
-bitmap_label import blocks stamp = record { version = 1; kind = bitmap_kind import; blocks = blocks; segments = seg_count blocks; stamp = stamp }
-
--- the first field by which a label is another one than that of such a bitmap: its kind, its blocks or its segments
-abbrev pub other_field : Bool → ℕ → Label → Option ℕ
-other_field import blocks x = if x.kind == bitmap_kind import then (if x.blocks == blocks then (if x.segments == seg_count blocks then None else Some 4) else Some 3) else Some 2
-
--- the block is a label, but that of another use
-pub record IsOther (block : Block) (import : Bool) (blocks field : ℕ) : Type 0 where
-  pub label : Label
-  pub is : IsLabel block label
-  pub differs : other_field import blocks label ≡ Some field
-
--- the field of a block by which it is not the label of such a bitmap
-abbrev pub IsBadLabel : Block → Bool → ℕ → ℕ → Type 0
-IsBadLabel block import blocks field = (first_broken (label_rules block) ≡ Some field) ⊎ IsOther block import blocks field
+bitmap_label import blocks stamp = label_for (bitmap_use import blocks) stamp
 
 -- the bits behind the last segment are zeros
 pub record IsClean (bytes : List ℕ) (segs : ℕ) : Type 0 where
@@ -162,7 +148,7 @@ MakeRefused old blocks full stamp Fault new = IsMadeInPart old blocks full stamp
 pub record IsMislabelled (old : Seen) (import : Bool) (blocks field : ℕ) (new : Seen) : Type 0 where
   pub fits : blocks_for (seg_count blocks) ≤ old.size
   pub later : old.faults ≤ new.faults
-  pub bad : IsTold old → IsBadLabel (block_at old.image 0) import blocks field
+  pub bad : IsTold old → IsBadLabel (block_at old.image 0) (bitmap_use import blocks) field
   pub none : IsTold old → (stamp : ℕ) → IsLabel (block_at old.image 0) (bitmap_label import blocks stamp) → ⊥
 
 -- the label and the bits were not all read

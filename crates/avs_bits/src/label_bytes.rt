@@ -1,16 +1,15 @@
 // The bytes of a bitmap: its label, and behind it the bits.
-ghost use Rattle.std.specs.Prelude.{◌≡◌, ◌+◌, ◌*◌, ◌/◌, ◌<◌, ◌≤◌, ◌^◌, Some, IfOk, IfErr, OnOk, IsOk, IsTrue, nat_lt, length, replicate, take, ℕ};
+ghost use Rattle.std.specs.Prelude.{◌≡◌, ◌+◌, ◌*◌, ◌/◌, ◌<◌, ◌≤◌, ◌^◌, IfOk, IfErr, OnOk, IsOk, IsTrue, nat_lt, length, replicate, take, ℕ};
 ghost use Rattle.avs_seg.specs.Segment.{seg_count};
 ghost use Rattle.avs_seg.specs.Image.{block_at, blocks_of};
 ghost use Rattle.avs_seg.specs.Causes.{HasCause};
 ghost use Rattle.avs_dev.specs.Seen.{IsTold, IsRange};
 ghost use Rattle.avs_bits.specs.Bit.{bit_of, IsHeld};
-ghost use Rattle.avs_code.specs.Label.{IsLabel, LabelKeeps, label_block, label_rules};
-ghost use Rattle.avs_code.specs.Rules.{Reads};
-ghost use Rattle.avs_bits.specs.BitSet.{blocks_for, bitmap_kind, bitmap_label, other_field, IsBadLabel, NoRoom};
+ghost use Rattle.avs_code.specs.Label.{IsLabel, IsBadLabel, LabelKeeps, label_block};
+ghost use Rattle.avs_bits.specs.BitSet.{blocks_for, bitmap_use, bitmap_label, NoRoom};
 
 use crate::changes::BLOCK_BITS;
-use avs_code::{BadRecord, Label, get_label, put_label};
+use avs_code::{BadRecord, Label, LabelUse, get_label_of, put_label};
 use avs_dev::{Disk, Why};
 use avs_seg::{BLOCK, Failed, NoMemory, seg_count};
 use std::alloc::Global;
@@ -52,14 +51,19 @@ pub(crate) fn put_first(bytes: &mut [u8], label: &Label)
     bytes[..BLOCK].copy_from_slice(&block);
 }
 
-// The kind of the label.
-fn kind_of(import: bool) -> u32
-    ensures { result ≡ bitmap_kind import }
+// What the label of a bitmap says of a volume of so many blocks.
+fn bitmap_use(import: bool, blocks: u32) -> LabelUse
+    ensures { result ≡ bitmap_use import blocks }
 {
-    if import {
+    let kind = if import {
         Label::IMPORT_BITMAP
     } else {
         Label::MIRROR_BITMAP
+    };
+    LabelUse {
+        kind,
+        blocks,
+        segments: seg_count(blocks),
     }
 }
 
@@ -69,11 +73,16 @@ pub(crate) fn bitmap_label(blocks: u32, stamp: u64) -> Label
     ensures is { result ≡ bitmap_label (nat_lt 0 stamp) blocks stamp }
     ensures keeps { LabelKeeps result }
 {
+    let LabelUse {
+        kind,
+        blocks,
+        segments,
+    } = bitmap_use(stamp > 0, blocks);
     Label {
         version: 1,
-        kind: kind_of(stamp > 0),
+        kind,
         blocks,
-        segments: seg_count(blocks),
+        segments,
         stamp,
     }
 }
@@ -92,41 +101,15 @@ pub(crate) fn read_first<D: Disk>(disk: &mut D, bytes: &mut [u8]) -> Result<(), 
     disk.read(0, bytes)
 }
 
-// The label before the bits.
-fn first_label(bytes: &[u8]) -> Result<Label, BadRecord>
-    requires { 512 ≤ length bytes.now }
-    ensures { Reads IsLabel label_rules (take 512 bytes.now) result }
-{
-    let mut block = [0; BLOCK];
-    block.copy_from_slice(&bytes[..BLOCK]);
-    get_label(&block)
-}
-
-// Refuses a label that is that of another use.
-fn check_use(label: &Label, import: bool, blocks: u32) -> Result<(), BadRecord>
-    ensures ok { OnOk result (label.now ≡ record (bitmap_label import blocks label.now.stamp) { version = label.now.version }) }
-    ensures other { IfErr result (λ e. other_field import blocks label.now ≡ Some e.0) }
-{
-    if label.kind != kind_of(import) {
-        return Err(BadRecord(2));
-    }
-    if label.blocks != blocks {
-        return Err(BadRecord(3));
-    }
-    if label.segments != seg_count(blocks) {
-        return Err(BadRecord(4));
-    }
-    Ok(())
-}
-
 // The stamp of the label before the bits, where it is the label of such a bitmap.
 pub(crate) fn stamp_of(bytes: &[u8], import: bool, blocks: u32) -> Result<u64, BadRecord>
     requires { 512 ≤ length bytes.now }
     ensures ok { IfOk result (λ stamp. IsLabel (take 512 bytes.now) (bitmap_label import blocks stamp)) }
-    ensures bad { IfErr result (λ e. IsBadLabel (take 512 bytes.now) import blocks e.0) }
+    ensures bad { IfErr result (λ e. IsBadLabel (take 512 bytes.now) (bitmap_use import blocks) e.0) }
     ensures exact { (stamp : ℕ) → IsLabel (take 512 bytes.now) (bitmap_label import blocks stamp) → IsOk result }
 {
-    let label = first_label(bytes)?;
-    check_use(&label, import, blocks)?;
+    let mut block = [0; BLOCK];
+    block.copy_from_slice(&bytes[..BLOCK]);
+    let label = get_label_of(&block, bitmap_use(import, blocks))?;
     Ok(label.stamp)
 }

@@ -1,9 +1,12 @@
 -- The label of a volume.
-use Rattle.std.specs.Prelude.{◌≡◌, ◌≢◌, ℕ, ◌<◌, ◌≤◌, ◌^◌, ◌==◌, nat_eq, nat_le, Bool, true, ◌&&◌, ◌||◌, List, [], ◌∷◌, ◌++◌, drop, codes}
+use Rattle.std.specs.Prelude.{◌≡◌, ◌≢◌, ◌⊎◌, ℕ, ◌<◌, ◌≤◌, ◌^◌, ◌==◌, nat_eq, nat_le, Bool, true, ◌&&◌, ◌||◌, if◌then◌else◌, Option, None, Some, Result, Ok, IfOk, IfErr, List, [], ◌∷◌, ◌++◌, drop, codes}
 use Rattle.std.specs.List.{starts_with}
 use Rattle.avs_seg.specs.Image.{Block}
 use Rattle.avs_code.specs.Bytes.{zeros, all_zero, u32_bytes, u64_bytes, u32_at, u64_at}
+use Rattle.avs_code.specs.Rules.{first_broken}
 use Rattle.avs_code.specs.declared.labels.Label.{Label}
+use Rattle.avs_code.specs.declared.labels.LabelUse.{LabelUse}
+use Rattle.avs_code.specs.declared.records.BadRecord.{BadRecord}
 
 -- the block that stands for a label
 unfoldable pub label_block : Label → Block
@@ -47,3 +50,28 @@ label_field_rules x = (x.version == 1) ∷ is_label_kind x.kind ∷ true ∷ tru
 -- the same of the fields that lie in a block, with the magic bytes before them and the rest of the block behind
 abbrev pub label_rules : Block → List Bool
 label_rules block = starts_with nat_eq block (codes "AVSVOL01") ∷ label_field_rules (label_at block) ++ all_zero (drop 32 block) ∷ []
+
+-- the label of a use, with that stamp
+abbrev pub label_for : LabelUse → ℕ → Label
+label_for wanted stamp = record { version = 1; kind = wanted.kind; blocks = wanted.blocks; segments = wanted.segments; stamp = stamp }
+
+-- the first field by which a label is that of another use: its kind, its blocks or its segments
+abbrev pub other_field : LabelUse → Label → Option ℕ
+other_field wanted x = if x.kind == wanted.kind then (if x.blocks == wanted.blocks then (if x.segments == wanted.segments then None else Some 4) else Some 3) else Some 2
+
+-- the block is a label, but that of another use
+pub record IsOther (block : Block) (wanted : LabelUse) (field : ℕ) : Type 0 where
+  pub label : Label
+  pub is : IsLabel block label
+  pub differs : other_field wanted label ≡ Some field
+
+-- the field by which a block is no label of that use
+abbrev pub IsBadLabel : Block → LabelUse → ℕ → Type 0
+IsBadLabel block wanted field = (first_broken (label_rules block) ≡ Some field) ⊎ IsOther block wanted field
+
+-- What a reader of labels of one use answers: the label, whatever its stamp is, or the field by which the block is none.
+pub record ReadsUse (wanted : LabelUse) (block : Block) (result : Result Label BadRecord) : Type 0 where
+  pub ok : IfOk result (λ x. IsLabel block x × (x ≡ label_for wanted x.stamp))
+  pub unstamped : wanted.kind ≢ 9 → IfOk result (λ x. x.stamp ≡ 0)
+  pub exact : (stamp : ℕ) → IsLabel block (label_for wanted stamp) → result ≡ Ok (label_for wanted stamp)
+  pub bad : IfErr result (λ e. IsBadLabel block wanted e.0)

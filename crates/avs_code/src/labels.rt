@@ -1,6 +1,6 @@
 // The label of a volume.
-ghost use Rattle.std.specs.Prelude.{◌≡◌};
-ghost use Rattle.avs_code.specs.Label.{LabelKeeps, IsLabel, label_rules, is_label_kind, is_label_stamp, label_at};
+ghost use Rattle.std.specs.Prelude.{◌≡◌, IfErr, OnOk, Some};
+ghost use Rattle.avs_code.specs.Label.{LabelKeeps, IsLabel, ReadsUse, label_rules, is_label_kind, is_label_stamp, label_at, label_for, other_field};
 ghost use Rattle.avs_code.specs.Rules.{Reads};
 
 use crate::bytes::{is_zero_from, put_u32, put_u64, start, u32_at, u64_at};
@@ -43,6 +43,15 @@ impl Label {
     pub const IMPORT_BITMAP: u32 = 9;
 }
 
+/// What a volume serves as, and for what size: the fields of its label that its reader knows before.
+#[derive(Clone, Copy, Debug, PartialEq, Eq)]
+pub struct LabelUse {
+    /// One of the constants of `Label`.
+    pub kind: u32,
+    pub blocks: u32,
+    pub segments: u32,
+}
+
 /// Writes the block that stands for a label.
 pub fn put_label(x: &Label, out: &mut [u8; BLOCK])
     requires { LabelKeeps x.now }
@@ -63,6 +72,33 @@ pub fn get_label(block: &[u8; BLOCK]) -> Result<Label, BadRecord>
 {
     check(&label_rules(block))?;
     Ok(label_at(block))
+}
+
+/// The label that a block stands for, where it is that of this use, with any stamp. Else the number of the first field
+/// that breaks its rule, or by which the label is that of another use.
+pub fn get_label_of(block: &[u8; BLOCK], wanted: LabelUse) -> Result<Label, BadRecord>
+    ensures { ReadsUse wanted block.now result }
+{
+    let label = get_label(block)?;
+    check_use(&label, wanted)?;
+    Ok(label)
+}
+
+// Refuses a label that is that of another use.
+fn check_use(label: &Label, wanted: LabelUse) -> Result<(), BadRecord>
+    ensures ok { OnOk result (label.now ≡ record (label_for wanted label.now.stamp) { version = label.now.version }) }
+    ensures other { IfErr result (λ e. other_field wanted label.now ≡ Some e.0) }
+{
+    if label.kind != wanted.kind {
+        return Err(BadRecord(2));
+    }
+    if label.blocks != wanted.blocks {
+        return Err(BadRecord(3));
+    }
+    if label.segments != wanted.segments {
+        return Err(BadRecord(4));
+    }
+    Ok(())
 }
 
 // The fields as they lie in a block.

@@ -13,7 +13,7 @@ mod slot_table;
 
 pub use config_headers::{ConfigHeader, get_config_header, put_config_header};
 pub use group_blocks::{GroupBlock, get_group_block, put_group_block};
-pub use labels::{Label, get_label, put_label};
+pub use labels::{Label, LabelUse, get_label, get_label_of, put_label};
 pub use land_headers::{
     EntryHeader, LandHeader, get_entry_header, get_land_header, put_entry_header, put_land_header,
 };

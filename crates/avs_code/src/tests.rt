@@ -70,6 +70,41 @@ fn a_mirror_bitmap_has_no_stamp(rt: HostRuntime) {
 }
 
 #[test]
+fn a_label_of_another_use_names_the_first_field_that_tells_it(rt: HostRuntime) {
+    let label = Label {
+        version: 1,
+        kind: Label::IMPORT_BITMAP,
+        blocks: 128,
+        segments: 2,
+        stamp: 7,
+    };
+    let mut block = [0; BLOCK];
+    put_label(&label, &mut block);
+    let wanted = LabelUse {
+        kind: Label::IMPORT_BITMAP,
+        blocks: 128,
+        segments: 2,
+    };
+    assert_eq!(rt; get_label_of(&block, wanted), Ok(label));
+    for (kind, blocks, segments, field) in [
+        (Label::MIRROR_BITMAP, 64, 1, 2),
+        (Label::IMPORT_BITMAP, 127, 1, 3),
+        (Label::IMPORT_BITMAP, 128, 1, 4),
+    ] {
+        let other = LabelUse {
+            kind,
+            blocks,
+            segments,
+        };
+        assert_eq!(rt; get_label_of(&block, other), Err(BadRecord(field)));
+    }
+    assert_eq!(rt;
+        get_label_of(&altered(&block, 8, 1), wanted),
+        Err(BadRecord(1))
+    );
+}
+
+#[test]
 fn group_blocks(rt: HostRuntime) {
     let slot = Slot {
         flags: 31,
