@@ -1,15 +1,23 @@
 -- What the state may be after an answer.
-use Rattle.std.specs.Prelude.{◌≡◌, ◌⊎◌, Bool, true, false, Option, None, Some}
-use Rattle.avs_model.specs.State.{State, HostState, host_of, with_host, with_armed}
+use Rattle.std.specs.Prelude.{◌≡◌, ◌⊎◌, ◌+◌, Bool, true, false, if◌then◌else◌, Option, None, Some}
+use Rattle.avs_model.specs.State.{State, HostState, host_of, with_host, with_armed, are_disks_used}
 use Rattle.avs_model.specs.Stages.{stages, after_stages, StoppedIn, stopped_stages}
 use Rattle.avs_model.specs.Recovery.{told_of}
 use Rattle.avs_model.specs.Right.{MeetsTear}
 use Rattle.avs_model.specs.declared.event.Host.{Host}
 use Rattle.avs_model.specs.declared.event.Event.{Event}
-use Rattle.avs_model.specs.declared.event.Event.TheVariants.{Recover}
+use Rattle.avs_model.specs.declared.event.Event.TheVariants.{Ii, Recover}
 use Rattle.avs_model.specs.declared.recovered.Recovered.{Recovered}
 use Rattle.avs_model.specs.declared.answer.Answer.{Answer}
 use Rattle.avs_model.specs.declared.answer.Answer.TheVariants.{Up, Refused, Faulted}
+
+-- Before its stages, and before a fault can stop it, a command has a disk for the state of a group: one more is made only where each
+-- that was made serves one.
+abbrev pub with_disk_asked : State → Event → State
+with_disk_asked state (Ii host command) =
+    let held = host_of state host in
+    with_host state host (record held { state_disks = if are_disks_used held then held.state_disks + 1 else held.state_disks })
+with_disk_asked state event = state
 
 -- the event in which a fault has stopped the host, where it stops this one: a recovery leaves the one that was stopped before
 abbrev pub stopped_by : HostState → Event → Option Event
@@ -30,7 +38,7 @@ TearUsed steady old event host new =
 pub record Stops (steady : Bool) (old : State) (event : Event) (host : Host) (new : State) : Type 0 where
   pub left : State
   pub tear : TearUsed steady old event host left
-  pub down : new ≡ brought_down left host event
+  pub down : new ≡ brought_down (with_disk_asked left event) host event
 
 -- the host is up
 abbrev pub brought_up : State → Host → State
@@ -47,4 +55,4 @@ abbrev pub Next : Bool → State → Event → Answer → State → Type 0
 Next steady old event (Refused why) new = new ≡ old
 Next steady old event (Faulted host) new = Stops steady old event host new
 Next steady old event (Up told) new = Recovers old told.host told new
-Next steady old event answer new = new ≡ after_stages old (stages old event)
+Next steady old event answer new = new ≡ after_stages (with_disk_asked old event) (stages old event)

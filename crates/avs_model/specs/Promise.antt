@@ -5,7 +5,7 @@ use Rattle.std.specs.Io.KnownBytes.{prepend_known}
 use Rattle.avs_seg.specs.Lines.{lines_limit, lines_of, whole_lines}
 use Rattle.avs_model.specs.Script.{Script, script}
 use Rattle.avs_model.specs.Printed.{text, bad_line}
-use Rattle.avs_model.specs.State.{State, start}
+use Rattle.avs_model.specs.State.{State, start, host_of, are_disks_used}
 use Rattle.avs_model.specs.Refusals.{refusal}
 use Rattle.avs_model.specs.Good.{Good, RunTo}
 use Rattle.avs_model.specs.declared.event.Event.{Event}
@@ -56,10 +56,10 @@ pub record IsCutBySink (steady : Bool) (given : Script) (bytes : List ℕ) : Typ
   pub first : bytes ≡ take count whole
   pub such : ((answered : ℕ) × IsAnswered steady (take answered given.events) whole) ⊎ IsAnsweredToBad steady given whole
 
--- the event asks the rack for a disk, where nothing refuses it
+-- The event asks the rack for a disk: nothing refuses it, and it makes a volume, or a group for whose state no disk is free.
 abbrev pub AsksForDisk : State → Event → Type 0
 AsksForDisk state (Volume host name blocks) = refusal state (Volume host name blocks) ≡ None
-AsksForDisk state (Ii host command) = refusal state (Ii host command) ≡ None
+AsksForDisk state (Ii host command) = (refusal state (Ii host command) ≡ None) × IsTrue (are_disks_used (host_of state host))
 AsksForDisk state event = ⊥
 
 -- the rack failed: the events before the one that asked it for a disk are answered

@@ -1,5 +1,5 @@
 -- The state of the model: everything that the answers depend on.
-use Rattle.std.specs.Prelude.{ℕ, ◌+◌, Bool, true, false, Option, None, Some, List, [], ◌∷◌, find, position, slice_get, slice_set, slice_index_or, if◌then◌else◌}
+use Rattle.std.specs.Prelude.{ℕ, ◌+◌, ◌==◌, length, Bool, true, false, Option, None, Some, List, [], ◌∷◌, find, position, slice_get, slice_set, slice_index_or, if◌then◌else◌}
 use Rattle.std.specs.List.{sum_by, position_or_len}
 use Rattle.std.specs.Option.{option_map_or}
 use Rattle.std.specs.Str.{bytes_eq}
@@ -38,19 +38,21 @@ pub record ShadowGroup : Type 0 where
   pub armed : Bool
 
 -- a host: whether it is up; where it is down, the event in which a fault stopped it, or none; its volumes in order of making,
--- and its groups, which stand as before that event until the host is brought up again, but for a tear that was met
+-- and its groups, which stand as before that event until the host is brought up again, but for a tear that was met; and how many
+-- disks were made for the states of groups, which are kept for later groups
 pub record HostState : Type 0 where
   pub up : Bool
   pub stopped : Option Event
   pub volumes : List VolumeState
   pub groups : List ShadowGroup
+  pub state_disks : ℕ
 
 pub record State : Type 0 where
   pub p : HostState
   pub s : HostState
 
 abbrev pub empty_host : HostState
-empty_host = record { up = true; stopped = None; volumes = []; groups = [] }
+empty_host = record { up = true; stopped = None; volumes = []; groups = []; state_disks = 0 }
 
 -- before the first event
 abbrev pub start : State
@@ -150,6 +152,10 @@ reach_of host name = reach_by host name (use_of host name)
 -- the number of the group of that name, where it is there
 abbrev pub group_of : HostState → List ℕ → Option ℕ
 group_of host group = position (λ held. bytes_eq group held.name) host.groups
+
+-- whether each disk that was made for the state of a group serves one
+abbrev pub are_disks_used : HostState → Bool
+are_disks_used host = host.state_disks == length host.groups
 
 -- whether there is a shadow set of that name
 abbrev pub is_set : Use → Bool

@@ -77,7 +77,7 @@ pub enum ArmTarget {
 /// A command on shadow sets.
 #[derive(Debug, Drop)]
 pub enum IiCommand {
-    /// Makes a shadow of the master at this point in time, and keeps its bits on the bitmap volume.
+    /// Makes a shadow of the master at this point in time, and keeps the states of its chunks on the bitmap volume.
     Enable {
         dependent: bool,
         master: Name,
