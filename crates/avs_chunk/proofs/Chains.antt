@@ -1,5 +1,5 @@
 -- One save after another.
-use Rattle.std.proofs.Common.{◌≡◌, ◌≢◌, ◌⊎◌, inl, inr, ℕ, ◌+◌, ◌-◌, ◌/◌, ◌<◌, ◌≤◌, Bool, cond, eqb, IsTrue, Result, Ok, Err, refl, sym, ◌∙◌, ap, subst, arith}
+use Rattle.std.proofs.Common.{◌≡◌, ◌≢◌, ◌⊎◌, inl, inr, ℕ, ◌+◌, ◌-◌, ◌/◌, ◌^◌, ◌<◌, ◌≤◌, min, Bool, cond, eqb, IsTrue, Result, Ok, Err, refl, sym, ◌∙◌, ap, subst, arith}
 use Rattle.std.proofs.lemmas.Bool.{cases_lt}
 use Rattle.avs_seg.specs.Image.{Image, ChangesWithin}
 use Rattle.avs_seg.specs.Segment.{seg_count, seg_len}
@@ -10,7 +10,7 @@ use Rattle.avs_chunk.specs.States.{Splits, sum_from}
 use Rattle.avs_chunk.specs.ChunkSet.{ChunkSet, disk_of, state_of, disk_state, chunks_of, CanSave}
 use Rattle.avs_chunk.specs.Disks.{Disks, AreSameDisks, AreSteady, AreStillArmed, OneUsed, HasCauses, raised}
 use Rattle.avs_chunk.specs.Calls.{disks_of, Stays, KeepsImages, ChangesIn, state_block, to_master, to_shadow, to_bitmap, Saves}
-use Rattle.avs_chunk.proofs.SameDisks.{IsSameDisk-same, IsSameDisk-then, raised-none, raised-then, raised_most, Rose-later, cond_is, cond_not}
+use Rattle.avs_chunk.proofs.SameDisks.{IsSameDisk-same, IsSameDisk-then, raised-none, raised-then, raised_most, raised_least, Rose-later, cond_is, cond_not}
 use Rattle.avs_chunk.proofs.Images.{is_2_not_0, is_2_not_3}
 use Rattle.avs_chunk.proofs.Saving.{stands, Stays-same, Splits-none, Splits-one, Splits-then, ChangesIn-same, ChangesIn-wider}
 use Rattle.avs_chunk.proofs.Sums.{sum_none, sum_one, sum_more, sum_less}
@@ -25,6 +25,7 @@ Stays-then a b c told p q = record {
   live_b = q.live_b ∙ p.live_b;
   staged = λ t. q.staged (told t) ∙ p.staged t;
   label = λ t label. q.label (told t) (p.label t label);
+  not_back = λ t d inside not. q.not_back (told t) d (subst (λ (n : ℕ). d < seg_count n) (sym p.blocks) inside) (p.not_back t d inside not);
   clean = λ t zeros. q.clean (told t) (p.clean t zeros);
 }
 
@@ -132,10 +133,11 @@ Saves-split x s m c lt is = record {
 
 -- ---- the chunks up to one, and then that one
 
-ChangesIn-then : (a b : ChunkSet) (f c e state n : ℕ) (img mid new : Image) → f ≤ c → c ≤ e → e ≤ n → Splits (state_of a) (state_of b) n f c → ChangesIn a f c state img mid → ChangesIn b c e state mid new → ChangesIn a f e state img new
-ChangesIn-then a b f c e state n img mid new low high inside memory p q = record {
+ChangesIn-then : (a b : ChunkSet) (f c e state n : ℕ) (img mid new : Image) → b.blocks ≡ a.blocks → f ≤ c → c ≤ e → e ≤ n → Splits (state_of a) (state_of b) n f c → ChangesIn a f c state img mid → ChangesIn b c e state mid new → ChangesIn a f e state img new
+ChangesIn-then a b f c e state n img mid new same low high inside memory p q = record {
   same_length = q.same_length ∙ p.same_length;
   outside = λ i out. q.outside i (second i out) ∙ p.outside i (first i out);
+  behind = λ i past. q.behind i (subst (λ (k : ℕ). k ≤ i) (sym same) past) ∙ p.behind i past;
 }
   where
     first : (i : ℕ) → (i / 64 < f) ⊎ ((e ≤ i / 64) ⊎ (state_of a (i / 64) ≢ state)) → (i / 64 < f) ⊎ ((c ≤ i / 64) ⊎ (state_of a (i / 64) ≢ state))
@@ -213,8 +215,8 @@ module _ {T E S F : Type 0} (x : S) (a b s : ChunkSet) (m m' m'' : Seen) (f c : 
         memory = Splits-then (state_of a) (state_of b) (state_of s) (chunks_of a) f c (c + 1) low (omega arith) p.memory (subst (λ (n : ℕ). Splits (state_of b) (state_of s) n c (c + 1)) same_count h.memory);
         stopped = λ _ _. tt;
         memory_stopped = tt;
-        master_within = λ told. ChangesIn-then a b f c (c + 1) 3 (chunks_of a) m.image m'.image m''.image low (omega arith) (omega arith) p.memory (p.master_within told) (h.master_within (p.disks.master.told told));
-        shadow_within = λ told. ChangesIn-then a b f c (c + 1) 0 (chunks_of a) (disk_of a.shadow).image (disk_of b.shadow).image (disk_of s.shadow).image low (omega arith) (omega arith) p.memory (p.shadow_within told) (h.shadow_within (p.disks.shadow.told told));
+        master_within = λ told. ChangesIn-then a b f c (c + 1) 3 (chunks_of a) m.image m'.image m''.image p.stays.blocks low (omega arith) (omega arith) p.memory (p.master_within told) (h.master_within (p.disks.master.told told));
+        shadow_within = λ told. ChangesIn-then a b f c (c + 1) 0 (chunks_of a) (disk_of a.shadow).image (disk_of b.shadow).image (disk_of s.shadow).image p.stays.blocks low (omega arith) (omega arith) p.memory (p.shadow_within told) (h.shadow_within (p.disks.shadow.told told));
         bitmap_within = bitmap_then;
         counts = record {
           master = h.counts.master ∙ ap (λ (w : ℕ). raised w (to_master b c (c + 1))) p.counts.master ∙ raised-then m.written (to_master a f c) (to_master b c (c + 1)) ∙ ap (λ (n : ℕ). raised m.written n) sum_master;
@@ -248,19 +250,25 @@ module _ {T E S F : Type 0} (x : S) (a b s : ChunkSet) (m m' m'' : Seen) (f c : 
               high = part.high;
               splits = Splits-then (state_of a) (state_of b) (state_of s) (chunks_of a) f c part.upto low part.low p.memory (subst (λ (n : ℕ). Splits (state_of b) (state_of s) n c part.upto) same_count part.splits);
             };
-        master_within = λ told. ChangesIn-then a b f c (c + 1) 3 (chunks_of a) m.image m'.image m''.image low (omega arith) (omega arith) p.memory (p.master_within told) (h.master_within (p.disks.master.told told));
-        shadow_within = λ told. ChangesIn-then a b f c (c + 1) 0 (chunks_of a) (disk_of a.shadow).image (disk_of b.shadow).image (disk_of s.shadow).image low (omega arith) (omega arith) p.memory (p.shadow_within told) (h.shadow_within (p.disks.shadow.told told));
+        master_within = λ told. ChangesIn-then a b f c (c + 1) 3 (chunks_of a) m.image m'.image m''.image p.stays.blocks low (omega arith) (omega arith) p.memory (p.master_within told) (h.master_within (p.disks.master.told told));
+        shadow_within = λ told. ChangesIn-then a b f c (c + 1) 0 (chunks_of a) (disk_of a.shadow).image (disk_of b.shadow).image (disk_of s.shadow).image p.stays.blocks low (omega arith) (omega arith) p.memory (p.shadow_within told) (h.shadow_within (p.disks.shadow.told told));
         bitmap_within = bitmap_then;
         counts = tt;
         counts_stopped = record {
           master = most m.written m'.written m''.written (to_master a f c) (to_master b c (c + 1)) (to_master a f (c + 1)) p.counts.master h.counts_stopped.master sum_master;
           shadow = most (disk_of a.shadow).written (disk_of b.shadow).written (disk_of s.shadow).written (to_shadow a f c) (to_shadow b c (c + 1)) (to_shadow a f (c + 1)) p.counts.shadow h.counts_stopped.shadow sum_shadow;
           bitmap = most a.areas.disk.written b.areas.disk.written s.areas.disk.written (to_bitmap a f c) (to_bitmap b c (c + 1)) (to_bitmap a f (c + 1)) p.counts.bitmap h.counts_stopped.bitmap sum_bitmap;
+          master_kept = least m.written m'.written m''.written (to_master a f c) p.counts.master h.counts_stopped.master_kept;
+          shadow_kept = least (disk_of a.shadow).written (disk_of b.shadow).written (disk_of s.shadow).written (to_shadow a f c) p.counts.shadow h.counts_stopped.shadow_kept;
+          bitmap_kept = least a.areas.disk.written b.areas.disk.written s.areas.disk.written (to_bitmap a f c) p.counts.bitmap h.counts_stopped.bitmap_kept;
         };
       }
         where
           most : (w w' w'' i j n : ℕ) → w' ≡ raised w i → w'' ≤ w' + j → i + j ≡ n → w'' ≤ w + n
           most w w' w'' i j n is le sum = omega (arith, is, le, sum, raised_most w i)
+
+          least : (w w' w'' i : ℕ) → w' ≡ raised w i → min w' (2 ^ 64 - 1) ≤ w'' → min w (2 ^ 64 - 1) ≤ w''
+          least w w' w'' i is le = omega (arith, is, le, raised_least w i)
 
 -- ---- a save that stopped, as one of more chunks
 
@@ -284,6 +292,9 @@ Saves-wider a s m m' f c e y low high h = record {
     master = omega (arith, h.counts_stopped.master, sum_less (λ d. cond (eqb (state_of a d) 3) (seg_len d a.blocks) 0) f c e low high);
     shadow = omega (arith, h.counts_stopped.shadow, sum_less (λ d. cond (eqb (state_of a d) 0) (seg_len d a.blocks) 0) f c e low high);
     bitmap = omega (arith, h.counts_stopped.bitmap, sum_less (λ d. cond (eqb (state_of a d) 2) 0 1) f c e low high);
+    master_kept = h.counts_stopped.master_kept;
+    shadow_kept = h.counts_stopped.shadow_kept;
+    bitmap_kept = h.counts_stopped.bitmap_kept;
   };
 }
 

@@ -74,6 +74,12 @@ raised_most w k = elim (cases_eq k 0) [
   | inr some ↦ subst (λ (v : ℕ). v ≤ w + k) (sym (raised-some w k (omega arith))) (omega arith)
 ]
 
+pub raised_least : (w k : ℕ) → min w (2 ^ 64 - 1) ≤ raised w k
+raised_least w k = elim (cases_eq k 0) [
+  | inl none ↦ subst (λ (v : ℕ). min w (2 ^ 64 - 1) ≤ v) (sym (raised-none w k none)) (omega arith)
+  | inr some ↦ subst (λ (v : ℕ). min w (2 ^ 64 - 1) ≤ v) (sym (raised-some w k (omega arith))) (omega arith)
+]
+
 -- ---- faults
 
 pub Rose-later : (a b c : ℕ) → a ≤ b → Rose b c → Rose a c
@@ -133,9 +139,14 @@ pub record Copy {T E : Type 0} (state at k : ℕ) (r : Result T E) (m s m' s' : 
   pub counts_s : OnOk r (s'.written ≡ raised s.written (cond (eqb state 0) k 0))
   pub most_m : m'.written ≤ m.written + cond (eqb state 3) k 0
   pub most_s : s'.written ≤ s.written + cond (eqb state 0) k 0
+  pub least_m : min m.written (2 ^ 64 - 1) ≤ m'.written
+  pub least_s : min s.written (2 ^ 64 - 1) ≤ s'.written
 
 unwritten : (a b k : ℕ) → b ≡ a → b ≤ a + k
 unwritten a b k is = omega arith
+
+unfallen : (a b : ℕ) → b ≡ a → min a (2 ^ 64 - 1) ≤ b
+unfallen a b is = omega arith
 
 Copy-to_shadow : {T E : Type 0} (at k : ℕ) (r : Result T E) (m s m' s' : Seen) → 0 < k → CopiesSpan m s at k r m' s' → Copy 0 at k r m s m' s'
 Copy-to_shadow at k (Ok x) m s m' s' some c = record {
@@ -154,6 +165,8 @@ Copy-to_shadow at k (Ok x) m s m' s' some c = record {
   counts_s = c.counted ∙ sym (raised-some s.written k some);
   most_m = unwritten m.written m'.written 0 (ap (λ (d : Seen). d.written) c.rest);
   most_s = (let e : s'.written ≡ counted s.written k = c.counted in omega arith);
+  least_m = unfallen m.written m'.written (ap (λ (d : Seen). d.written) c.rest);
+  least_s = (let e : s'.written ≡ counted s.written k = c.counted in omega arith);
 }
 Copy-to_shadow at k (Err x) m s m' s' some c = record {
   master = IsSameDisk-faults m m' c.rest c.later;
@@ -171,6 +184,8 @@ Copy-to_shadow at k (Err x) m s m' s' some c = record {
   counts_s = tt;
   most_m = unwritten m.written m'.written 0 (ap (λ (d : Seen). d.written) c.rest);
   most_s = unwritten s.written s'.written k c.uncounted;
+  least_m = unfallen m.written m'.written (ap (λ (d : Seen). d.written) c.rest);
+  least_s = unfallen s.written s'.written c.uncounted;
 }
 
 Copy-to_master : {T E : Type 0} (at k : ℕ) (r : Result T E) (m s m' s' : Seen) → 0 < k → CopiesSpan s m at k r s' m' → Copy 3 at k r m s m' s'
@@ -190,6 +205,8 @@ Copy-to_master at k (Ok x) m s m' s' some c = record {
   counts_s = ap (λ (d : Seen). d.written) c.rest;
   most_m = (let e : m'.written ≡ counted m.written k = c.counted in omega arith);
   most_s = unwritten s.written s'.written 0 (ap (λ (d : Seen). d.written) c.rest);
+  least_m = (let e : m'.written ≡ counted m.written k = c.counted in omega arith);
+  least_s = unfallen s.written s'.written (ap (λ (d : Seen). d.written) c.rest);
 }
 Copy-to_master at k (Err x) m s m' s' some c = record {
   master = c.disk;
@@ -207,6 +224,8 @@ Copy-to_master at k (Err x) m s m' s' some c = record {
   counts_s = tt;
   most_m = unwritten m.written m'.written k c.uncounted;
   most_s = unwritten s.written s'.written 0 (ap (λ (d : Seen). d.written) c.rest);
+  least_m = unfallen m.written m'.written c.uncounted;
+  least_s = unfallen s.written s'.written (ap (λ (d : Seen). d.written) c.rest);
 }
 
 Copy-nothing : {T E : Type 0} (state at k : ℕ) (r : Result T E) (m s : Seen) → state ≢ 0 → state ≢ 3 → IsOk r → Copy state at k r m s m s
@@ -226,6 +245,8 @@ Copy-nothing state at k (Ok x) m s no_0 no_3 ok = record {
   counts_s = sym (raised-none s.written _ (cond_not state 0 k 0 no_0));
   most_m = omega arith;
   most_s = omega arith;
+  least_m = omega arith;
+  least_s = omega arith;
 }
 Copy-nothing state at k (Err x) m s no_0 no_3 ok = absurd (false≢true ok)
 

@@ -12,7 +12,7 @@ use Rattle.avs_chunk.specs.States.{Splits, state_in, state_on}
 use Rattle.avs_chunk.specs.ChunkSet.{ChunkSet, shadow_by, master_by, disk_of, state_of, disk_state, chunks_of, shadow_image, IsKnown, IsCleanOnDisk, DiffersInSplit, IsClean, shadow_label}
 use Rattle.avs_chunk.specs.Disks.{raised}
 use Rattle.avs_chunk.specs.Steps.{HasStates, PutsState}
-use Rattle.avs_chunk.specs.Calls.{Stays, KeepsImages, ChangesIn, state_block, to_master, to_shadow, to_bitmap, Saves}
+use Rattle.avs_chunk.specs.Calls.{IsNotBack, Stays, KeepsImages, ChangesIn, state_block, to_master, to_shadow, to_bitmap, Saves}
 use Rattle.avs_chunk.proofs.SameDisks.{Copy, IsSameDisk-same, cond_not}
 use Rattle.avs_chunk.proofs.Images.{copied_shadow, copied_master, copied_alike, saved_shadow, saved_master, saved_alike, stands_by}
 use Rattle.avs_chunk.proofs.Sums.{sum_one}
@@ -23,7 +23,7 @@ pub stands : (s : ChunkSet) (a b : Image) → DiffersInSplit s a b → shadow_im
 stands s a b differs = stands_by s.blocks (live s.areas) (disk_of s.shadow).image a b differs.same
 
 pub Stays-same : (s : ChunkSet) → Stays s s
-Stays-same s = record { kind = refl; blocks = refl; there = refl; first = refl; len = refl; live_b = refl; staged = λ _. refl; label = λ _ label. label; clean = λ _ clean. clean }
+Stays-same s = record { kind = refl; blocks = refl; there = refl; first = refl; len = refl; live_b = refl; staged = λ _. refl; label = λ _ label. label; not_back = λ _ c lt not. not; clean = λ _ clean. clean }
 
 pub Splits-none : (f : ℕ → ℕ) (n a : ℕ) → Splits f f n a a
 Splits-none f n a = record { inside = λ c _ low high. absurd (nothing c low high); outside = λ c _ _. refl }
@@ -61,8 +61,8 @@ first_live a is = go a.live_b
     go false = omega (arith, is)
 
 -- only blocks of one chunk change, and none where it is not in this state
-ChangesIn-one : (old : ChunkSet) (c k state : ℕ) (img new : Image) → k ≤ 64 → ChangesWithin (64 * c) k img new → (state_of old c ≢ state → new ≡ img) → ChangesIn old c (c + 1) state img new
-ChangesIn-one old c k state img new short within same = record {
+ChangesIn-one : (old : ChunkSet) (c k state : ℕ) (img new : Image) → k ≤ 64 → 64 * c + k ≤ old.blocks → ChangesWithin (64 * c) k img new → (state_of old c ≢ state → new ≡ img) → ChangesIn old c (c + 1) state img new
+ChangesIn-one old c k state img new short inside within same = record {
   same_length = within.same_length;
   outside = λ i out. elim (cases_eq (i / 64) c) [
     | inl here ↦ elim out [
@@ -74,6 +74,7 @@ ChangesIn-one old c k state img new short within same = record {
     ]
     | inr apart ↦ within.outside i (away i apart)
   ];
+  behind = λ i past. within.outside i (inr (omega (arith, inside, past)));
 }
   where
     not_low : (i : ℕ) → i / 64 ≡ c → i / 64 < c → ⊥
@@ -89,7 +90,7 @@ ChangesIn-one old c k state img new short within same = record {
     ]
 
 pub ChangesIn-same : (old : ChunkSet) (a e state : ℕ) (img new : Image) → new ≡ img → ChangesIn old a e state img new
-ChangesIn-same old a e state img new is = record { same_length = ap length is; outside = λ i _. ap (λ (l : Image). block_at l i) is }
+ChangesIn-same old a e state img new is = record { same_length = ap length is; outside = λ i _. ap (λ (l : Image). block_at l i) is; behind = λ i _. ap (λ (l : Image). block_at l i) is }
 
 pub ChangesIn-wider : (old : ChunkSet) (a c e state : ℕ) (img new : Image) → c ≤ e → ChangesIn old a c state img new → ChangesIn old a e state img new
 ChangesIn-wider old a c e state img new le p = record {
@@ -101,6 +102,7 @@ ChangesIn-wider old a c e state img new le p = record {
       | inr other ↦ inr (inr other)
     ]
   ]);
+  behind = p.behind;
 }
 
 -- ---- one chunk
@@ -130,6 +132,9 @@ module _ (old : ChunkSet) (m m' : Seen) (X : Option Seen) (c : ℕ)
     short : seg_len c old.blocks ≤ 64
     short = omega arith
 
+    inside : 64 * c + seg_len c old.blocks ≤ old.blocks
+    inside = omega (arith, lt)
+
     one_master : to_master old c (c + 1) ≡ cond (eqb (state_of old c) 3) (seg_len c old.blocks) 0
     one_master = sum_one (λ d. cond (eqb (state_of old d) 3) (seg_len d old.blocks) 0) c
 
@@ -144,7 +149,7 @@ module _ (old : ChunkSet) (m m' : Seen) (X : Option Seen) (c : ℕ)
     Saves-copy e f is =
         let bad = subst (λ (r : Result S F). OnErr r (Rose m.faults m'.faults ⊎ Rose (disk_of old.shadow).faults (disk_of X).faults)) is copy.failed in
         record {
-          stays = record { kind = refl; blocks = refl; there = still; first = refl; len = refl; live_b = refl; staged = λ _. refl; label = λ _ label. record { label = label.label }; clean = λ _ zeros. record { each = zeros.each } };
+          stays = record { kind = refl; blocks = refl; there = still; first = refl; len = refl; live_b = refl; staged = λ _. refl; label = λ _ label. record { label = label.label }; not_back = λ _ d inside not. record { memory = not.memory; disk = not.disk }; clean = λ _ zeros. record { each = zeros.each } };
           disks = record { master = copy.master; shadow = copy.shadow; bitmap = IsSameDisk-same old.areas.disk };
           causes = record {
             failed = elim bad [ inl a ↦ inl a | inr b ↦ inr (inl b) ];
@@ -161,14 +166,17 @@ module _ (old : ChunkSet) (m m' : Seen) (X : Option Seen) (c : ℕ)
           memory = tt;
           stopped = λ _ _. record { upto = c; low = omega arith; high = omega arith; splits = Splits-none (disk_state old) (chunks_of old) c };
           memory_stopped = record { upto = c; low = omega arith; high = omega arith; splits = Splits-none (state_of old) (chunks_of old) c };
-          master_within = λ told. ChangesIn-one old c (seg_len c old.blocks) 3 m.image m'.image short (copy.m_within told) copy.m_same;
-          shadow_within = λ told. ChangesIn-one old c (seg_len c old.blocks) 0 (disk_of old.shadow).image (disk_of X).image short (copy.s_within told) copy.s_same;
+          master_within = λ told. ChangesIn-one old c (seg_len c old.blocks) 3 m.image m'.image short inside (copy.m_within told) copy.m_same;
+          shadow_within = λ told. ChangesIn-one old c (seg_len c old.blocks) 0 (disk_of old.shadow).image (disk_of X).image short inside (copy.s_within told) copy.s_same;
           bitmap_within = λ _. ChangesWithin-same _ _ old.areas.disk.image;
           counts = tt;
           counts_stopped = record {
             master = rw one_master copy.most_m;
             shadow = rw one_shadow copy.most_s;
             bitmap = omega arith;
+            master_kept = copy.least_m;
+            shadow_kept = copy.least_s;
+            bitmap_kept = omega arith;
           };
         }
 
@@ -231,8 +239,31 @@ module _ (old : ChunkSet) (m m' : Seen) (X : Option Seen) (c : ℕ)
           other : (d : ℕ) → seg_count old.blocks ≤ d → d ≢ c
           other d past is = omega arith
 
-      put_stays : {T E : Type 0} (r : Result T E) → PutsState old.areas old.memory c 2 r A M → (IsTold old.areas.disk → (live A ≡ live old.areas) ⊎ HasStates old.memory (live old.areas) (live A) c 2) → Stays old new
-      put_stays r p end = record {
+      -- a chunk stands on the disk as it did there or in memory, or it is split
+      put_not_back : (live A ≡ live old.areas) ⊎ HasStates old.memory (live old.areas) (live A) c 2 → ((d : ℕ) → (state_of new d ≡ state_of old d) ⊎ (state_of new d ≡ 2)) → (d : ℕ) → IsNotBack old d → IsNotBack new d
+      put_not_back end memory d not = record {
+        memory = λ is. elim (memory d) [
+          | inl same ↦ not.memory (sym same ∙ is)
+          | inr two ↦ not_3 (state_of new d) two is
+        ];
+        disk = λ is. on_disk end is;
+      }
+        where
+          not_3 : (n : ℕ) → n ≡ 2 → n ≡ 3 → ⊥
+          not_3 n two three = omega arith
+
+          on_disk : (live A ≡ live old.areas) ⊎ HasStates old.memory (live old.areas) (live A) c 2 → disk_state new d ≡ 3 → ⊥
+          on_disk (inl same) is = not.disk (ap (λ (l : Image). state_on l d) (sym same) ∙ is)
+          on_disk (inr has) is = elim (cases_eq d c) [
+            | inl this ↦ not_3 (disk_state new d) (ap (λ (k : ℕ). state_on (live A) k) this ∙ has.now) is
+            | inr other ↦ elim (cases_eq (d / 2048) (c / 2048)) [
+              | inl here ↦ not.memory (sym (has.near d other here) ∙ is)
+              | inr apart ↦ not.disk (sym (has.far d apart) ∙ is)
+            ]
+          ]
+
+      put_stays : {T E : Type 0} (r : Result T E) → PutsState old.areas old.memory c 2 r A M → (IsTold old.areas.disk → (live A ≡ live old.areas) ⊎ HasStates old.memory (live old.areas) (live A) c 2) → ((d : ℕ) → (state_of new d ≡ state_of old d) ⊎ (state_of new d ≡ 2)) → Stays old new
+      put_stays r p end memory = record {
         kind = refl;
         blocks = refl;
         there = still;
@@ -243,6 +274,7 @@ module _ (old : ChunkSet) (m m' : Seen) (X : Option Seen) (c : ℕ)
         label = λ told label. record {
           label = subst (λ (b : Block). IsLabel b (shadow_label old.blocks)) (sym ((p.within told).outside 0 (inl (omega (arith, first_live old.areas first_is))))) label.label;
         };
+        not_back = λ told d inside not. put_not_back (end told) memory d not;
         clean = λ told zeros. put_clean (end told) zeros;
       }
 
@@ -251,7 +283,10 @@ module _ (old : ChunkSet) (m m' : Seen) (X : Option Seen) (c : ℕ)
 
       pub Saves-put : {T E : Type 0} (r : Result T E) → PutsState old.areas old.memory c 2 r A M → Saves old m c (c + 1) r new m'
       Saves-put (Ok y) p = record {
-        stays = put_stays (Ok y) p (λ told. inr (p.done told));
+        stays = put_stays (Ok y) p (λ told. inr (p.done told)) (λ d. elim (cases_eq d c) [
+          | inl is ↦ inr (ap (λ (j : ℕ). state_in M j) is ∙ p.set.now)
+          | inr other ↦ inl (p.set.others d other)
+        ]);
         disks = record { master = copy.master; shadow = copy.shadow; bitmap = p.disk };
         causes = record { failed = tt; armed = record { master = done_q _ copy.armed_m; shadow = done_q _ copy.armed_s; bitmap = p.armed }; used = λ _. tt };
         images = λ known told. put_keeps known told (inr (p.done known.bitmap));
@@ -270,8 +305,8 @@ module _ (old : ChunkSet) (m m' : Seen) (X : Option Seen) (c : ℕ)
         memory = Splits-one (state_of old) (state_of new) (chunks_of old) c p.set.now (λ d _ other. p.set.others d other);
         stopped = λ _ _. tt;
         memory_stopped = tt;
-        master_within = λ told. ChangesIn-one old c (seg_len c old.blocks) 3 m.image m'.image short (copy.m_within told) copy.m_same;
-        shadow_within = λ told. ChangesIn-one old c (seg_len c old.blocks) 0 (disk_of old.shadow).image (disk_of X).image short (copy.s_within told) copy.s_same;
+        master_within = λ told. ChangesIn-one old c (seg_len c old.blocks) 3 m.image m'.image short inside (copy.m_within told) copy.m_same;
+        shadow_within = λ told. ChangesIn-one old c (seg_len c old.blocks) 0 (disk_of old.shadow).image (disk_of X).image short inside (copy.s_within told) copy.s_same;
         bitmap_within = put_within (Ok y) p;
         counts = record {
           master = done_q _ copy.counts_m ∙ ap (λ (n : ℕ). raised m.written n) (sym one_master);
@@ -287,7 +322,7 @@ module _ (old : ChunkSet) (m m' : Seen) (X : Option Seen) (c : ℕ)
             | inr more ↦ inr (omega arith)
           ]
       Saves-put (Err e) p = record {
-        stays = put_stays (Err e) p p.failed;
+        stays = put_stays (Err e) p p.failed (λ d. inl (ap (λ (l : List ℕ). state_in l d) p.unset));
         disks = record { master = copy.master; shadow = copy.shadow; bitmap = p.disk };
         causes = record { failed = inr (inr p.cause.failed); armed = tt; used = λ steady. inr (inr (p.used steady.bitmap, done_q _ copy.armed_m, done_q _ copy.armed_s)) };
         images = λ known told. put_keeps known told (p.failed known.bitmap);
@@ -300,13 +335,16 @@ module _ (old : ChunkSet) (m m' : Seen) (X : Option Seen) (c : ℕ)
           | inr has ↦ record { upto = c + 1; low = omega arith; high = omega arith; splits = put_split known has }
         ];
         memory_stopped = record { upto = c; low = omega arith; high = omega arith; splits = subst (λ (l : List ℕ). Splits (state_of old) (λ d. state_in l d) (chunks_of old) c c) (sym p.unset) (Splits-none (state_of old) (chunks_of old) c) };
-        master_within = λ told. ChangesIn-one old c (seg_len c old.blocks) 3 m.image m'.image short (copy.m_within told) copy.m_same;
-        shadow_within = λ told. ChangesIn-one old c (seg_len c old.blocks) 0 (disk_of old.shadow).image (disk_of X).image short (copy.s_within told) copy.s_same;
+        master_within = λ told. ChangesIn-one old c (seg_len c old.blocks) 3 m.image m'.image short inside (copy.m_within told) copy.m_same;
+        shadow_within = λ told. ChangesIn-one old c (seg_len c old.blocks) 0 (disk_of old.shadow).image (disk_of X).image short inside (copy.s_within told) copy.s_same;
         bitmap_within = put_within (Err e) p;
         counts = tt;
         counts_stopped = record {
           master = rw one_master copy.most_m;
           shadow = rw one_shadow copy.most_s;
           bitmap = (let e : A.disk.written ≡ old.areas.disk.written = p.uncounted in omega arith);
+          master_kept = copy.least_m;
+          shadow_kept = copy.least_s;
+          bitmap_kept = (let e : A.disk.written ≡ old.areas.disk.written = p.uncounted in omega arith);
         };
       }

@@ -1,28 +1,18 @@
 -- A write to the shadow: its chunks are saved, and then its range is written.
-use Rattle.std.proofs.Common.{◌≡◌, inl, inr, ℕ, ◌+◌, ◌-◌, ◌*◌, ◌/◌, ◌<◌, ◌≤◌, List, length, Option, is_some, Result, Ok, Err, refl, sym, ◌∙◌, ap, subst, arith}
-use Rattle.avs_seg.specs.Image.{Image, put, blocks_of, IsMix, ChangesWithin}
+use Rattle.std.proofs.Common.{◌≡◌, inl, inr, ℕ, ◌+◌, ◌-◌, ◌*◌, ◌/◌, ◌^◌, ◌<◌, ◌≤◌, min, List, length, Option, is_some, Result, Ok, Err, refl, sym, ◌∙◌, ap, subst, arith}
+use Rattle.avs_seg.specs.Image.{Image, put, blocks_of, IsMix}
 use Rattle.avs_seg.specs.Segment.{first_segment}
 use Rattle.avs_seg.proofs.Bytes.{length-blocks_of}
 use Rattle.avs_seg.proofs.Mixes.{IsMix-same}
-use Rattle.avs_seg.proofs.Changes.{ChangesWithin_union}
 use Rattle.avs_dev.specs.Seen.{Seen, IsTold, Writes}
 use Rattle.avs_flip.specs.Areas.{live}
 use Rattle.avs_chunk.specs.States.{Splits, SplitsFirst, state_on}
 use Rattle.avs_chunk.specs.ChunkSet.{ChunkSet, shadow_by, disk_of, disk_state, chunks_of, shadow_image, master_image, IsAlike, IsKnown}
 use Rattle.avs_chunk.specs.Disks.{AreSameDisks, HasCauses, raised}
-use Rattle.avs_chunk.specs.Calls.{disks_of, Stays, ChangesIn, chunks_end, to_master, to_shadow, to_bitmap, Saves, WritesShadow}
-use Rattle.avs_chunk.proofs.SameDisks.{IsSameDisk-same, IsSameDisk-writes, raised-some, raised-then, raised_most}
+use Rattle.avs_chunk.specs.Calls.{disks_of, Stays, ChangesRange, chunks_end, to_master, to_shadow, to_bitmap, Saves, WritesShadow}
+use Rattle.avs_chunk.proofs.SameDisks.{IsSameDisk-same, IsSameDisk-writes, raised-some, raised-then, raised_most, raised_least}
 use Rattle.avs_chunk.proofs.Images.{shadow-put, shadow-mix, master-kept, alike-kept}
 use Rattle.avs_chunk.proofs.Chains.{AreSameDisks-then, HasCauses-then}
-
-chunks_within : (a : ChunkSet) (f e state : ℕ) (img new : Image) → ChangesIn a f e state img new → ChangesWithin (64 * f) (64 * e - 64 * f) img new
-chunks_within a f e state img new p = record {
-  same_length = p.same_length;
-  outside = λ i out. p.outside i (elim out [
-    | inl low ↦ inl (omega arith)
-    | inr high ↦ inr (inl (omega arith))
-  ]);
-}
 
 module _ (a b : ChunkSet) (m m' : Seen) (at : ℕ) (bytes : List ℕ) (some : 0 < length bytes) (whole : 512 * (length bytes / 512) ≡ length bytes) (fits : at + length bytes / 512 ≤ a.blocks) where
   same_end : chunks_end at (length (blocks_of bytes)) ≡ chunks_end at (length bytes / 512)
@@ -47,7 +37,7 @@ module _ (a b : ChunkSet) (m m' : Seen) (at : ℕ) (bytes : List ℕ) (some : 0 
     };
     memory_stopped = p.memory_stopped;
     master_within = p.master_within;
-    shadow_within = λ told. chunks_within a (first_segment at) (chunks_end at (length bytes / 512)) 0 (disk_of a.shadow).image (disk_of b.shadow).image (p.shadow_within told);
+    shadow_within = λ told. record { same_length = (p.shadow_within told).same_length; outside = λ i _ apart. (p.shadow_within told).outside i apart; behind = (p.shadow_within told).behind };
     bitmap_within = p.bitmap_within;
     counts = tt;
     counts_stopped = p.counts_stopped;
@@ -87,6 +77,7 @@ module _ (a b : ChunkSet) (m m' : Seen) (at : ℕ) (bytes : List ℕ) (some : 0 
       live_b = p.stays.live_b;
       staged = p.stays.staged;
       label = λ told label. record { label = (p.stays.label told label).label };
+      not_back = λ told c inside not. let now = p.stays.not_back told c inside not in record { memory = now.memory; disk = now.disk };
       clean = λ told zeros. record { each = (p.stays.clean told zeros).each };
     }
 
@@ -102,10 +93,15 @@ module _ (a b : ChunkSet) (m m' : Seen) (at : ℕ) (bytes : List ℕ) (some : 0 
           ∙ ((p.images known told).alike alike).same i lt one;
     }
 
-    there_within : {T E : Type 0} (r : Result T E) → Writes (disk_of b.shadow) at bytes r (disk_of X) → IsTold (disk_of a.shadow) → ChangesWithin (64 * first_segment at) (64 * chunks_end at (length bytes / 512) - 64 * first_segment at) (disk_of a.shadow).image (disk_of X).image
-    there_within r w told = ChangesWithin_union (64 * first_segment at) (64 * chunks_end at (length bytes / 512) - 64 * first_segment at) at (length bytes / 512) (64 * first_segment at) (64 * chunks_end at (length bytes / 512) - 64 * first_segment at)
-        (disk_of a.shadow).image (disk_of b.shadow).image (disk_of X).image (omega arith) (omega arith) (omega arith) (omega arith)
-        (chunks_within a (first_segment at) (chunks_end at (length bytes / 512)) 0 (disk_of a.shadow).image (disk_of b.shadow).image (p.shadow_within told)) (w.within (p.disks.shadow.told told))
+    there_within : {T E : Type 0} (r : Result T E) → Writes (disk_of b.shadow) at bytes r (disk_of X) → IsTold (disk_of a.shadow) → ChangesRange a at (length bytes / 512) 0 (disk_of a.shadow).image (disk_of X).image
+    there_within r w told =
+        let saved = p.shadow_within told in
+        let within = w.within (p.disks.shadow.told told) in
+        record {
+          same_length = within.same_length ∙ saved.same_length;
+          outside = λ i out apart. within.outside i out ∙ saved.outside i apart;
+          behind = λ i past. within.outside i (inr (omega (arith, fits, past))) ∙ saved.behind i past;
+        }
 
     pub WritesShadow-write : {T E : Type 0} (r : Result T E) → Writes (disk_of b.shadow) at bytes r (disk_of X) → WritesShadow a m at bytes r written m'
     WritesShadow-write (Ok y) w = record {
@@ -162,11 +158,17 @@ module _ (a b : ChunkSet) (m m' : Seen) (at : ℕ) (bytes : List ℕ) (some : 0 
         master = most m.written m'.written (to_master a (first_segment at) (chunks_end at (length bytes / 512))) p.counts.master;
         shadow = most (disk_of a.shadow).written (disk_of X).written (to_shadow a (first_segment at) (chunks_end at (length bytes / 512))) (w.uncounted ∙ p.counts.shadow);
         bitmap = most a.areas.disk.written b.areas.disk.written (to_bitmap a (first_segment at) (chunks_end at (length bytes / 512))) p.counts.bitmap;
+        master_kept = least m.written m'.written (to_master a (first_segment at) (chunks_end at (length bytes / 512))) p.counts.master;
+        shadow_kept = least (disk_of a.shadow).written (disk_of X).written (to_shadow a (first_segment at) (chunks_end at (length bytes / 512))) (w.uncounted ∙ p.counts.shadow);
+        bitmap_kept = least a.areas.disk.written b.areas.disk.written (to_bitmap a (first_segment at) (chunks_end at (length bytes / 512))) p.counts.bitmap;
       };
     }
       where
         most : (w w' k : ℕ) → w' ≡ raised w k → w' ≤ w + k
         most w w' k is = subst (λ (v : ℕ). v ≤ w + k) (sym is) (raised_most w k)
+
+        least : (w w' k : ℕ) → w' ≡ raised w k → min w (2 ^ 64 - 1) ≤ w'
+        least w w' k is = subst (λ (v : ℕ). min w (2 ^ 64 - 1) ≤ v) (sym is) (raised_least w k)
 
         never : {e : ℕ} → e < e → ⊥
         never {e} less = omega arith

@@ -1,5 +1,5 @@
 -- What each call makes of a set and its master.
-use Rattle.std.specs.Prelude.{◌≡◌, ◌≢◌, ◌⊎◌, ℕ, ◌+◌, ◌-◌, ◌*◌, ◌/◌, ◌<◌, ◌≤◌, List, length, is_some, Result, OnOk, OnErr, IsOk}
+use Rattle.std.specs.Prelude.{◌≡◌, ◌≢◌, ◌⊎◌, ℕ, ◌+◌, ◌-◌, ◌/◌, ◌<◌, ◌≤◌, List, length, is_some, Result, OnOk, OnErr, IsOk}
 use Rattle.avs_seg.specs.Image.{Image, block_at, put, range, blocks_of, IsMix, ChangesWithin}
 use Rattle.avs_seg.specs.Segment.{first_segment, seg_count}
 use Rattle.avs_dev.specs.Seen.{Seen, IsTold}
@@ -12,6 +12,11 @@ use Rattle.avs_chunk.specs.ChunkSet.{ChunkSet, disk_of, state_of, disk_state, ch
 abbrev pub disks_of : ChunkSet → Seen → Disks
 disks_of s m = record { master = m; shadow = disk_of s.shadow; bitmap = s.areas.disk }
 
+-- a chunk does not stand on the shadow alone, neither in memory nor on the disk
+pub record IsNotBack (s : ChunkSet) (c : ℕ) : Type 0 where
+  pub memory : state_of s c ≢ on_shadow
+  pub disk : disk_state s c ≢ on_shadow
+
 -- what no call changes
 pub record Stays (old new : ChunkSet) : Type 0 where
   pub kind : new.kind ≡ old.kind
@@ -22,6 +27,7 @@ pub record Stays (old new : ChunkSet) : Type 0 where
   pub live_b : new.areas.live_b ≡ old.areas.live_b
   pub staged : IsTold old.areas.disk → staged new.areas ≡ staged old.areas
   pub label : IsTold old.areas.disk → HasLabel old → HasLabel new
+  pub not_back : IsTold old.areas.disk → (c : ℕ) → c < chunks_of old → IsNotBack old c → IsNotBack new c
   pub clean : IsTold old.areas.disk → IsCleanOnDisk old → IsCleanOnDisk new
 
 -- both images are as before, and what is the same on both disks stays so
@@ -30,10 +36,11 @@ pub record KeepsImages (old : ChunkSet) (img : Image) (new : ChunkSet) (img_new 
   pub master : master_image new img_new ≡ master_image old img
   pub alike : IsAlike old img → IsAlike new img_new
 
--- no block changes but those of chunks from `first` up to `end` that were in a state
+-- no block changes but those of chunks from `first` up to `end` that were in a state, and none behind the blocks of the set
 pub record ChangesIn (old : ChunkSet) (first end state : ℕ) (img new : Image) : Type 0 where
   pub same_length : length new ≡ length img
   pub outside : (i : ℕ) → (i / 64 < first) ⊎ ((end ≤ i / 64) ⊎ (state_of old (i / 64) ≢ state)) → block_at new i ≡ block_at img i
+  pub behind : (i : ℕ) → old.blocks ≤ i → block_at new i ≡ block_at img i
 
 -- the block of the disk with the states of a chunk
 abbrev pub state_block : ChunkSet → ℕ → ℕ
@@ -90,6 +97,12 @@ pub record StopsWrite (old : ChunkSet) (master : Image) (at : ℕ) (bs : Image) 
   pub before : saved.upto < chunks_end at (length bs) → shadow_image new master_new ≡ shadow_image old master
   pub mix : IsMix (shadow_image old master) at bs (shadow_image new master_new)
 
+-- no block changes but those of the range, and those of its chunks that were in a state, and none behind the blocks of the set
+pub record ChangesRange (old : ChunkSet) (at len state : ℕ) (img new : Image) : Type 0 where
+  pub same_length : length new ≡ length img
+  pub outside : (i : ℕ) → (i < at) ⊎ (at + len ≤ i) → (i / 64 < first_segment at) ⊎ ((chunks_end at len ≤ i / 64) ⊎ (state_of old (i / 64) ≢ state)) → block_at new i ≡ block_at img i
+  pub behind : (i : ℕ) → old.blocks ≤ i → block_at new i ≡ block_at img i
+
 -- the chunks of a range are saved, and last the range is written on the shadow's disk
 pub record WritesShadow {T E : Type 0} (old : ChunkSet) (m : Seen) (at : ℕ) (bytes : List ℕ) (result : Result T E) (new : ChunkSet) (m_new : Seen) : Type 0 where
   pub stays : Stays old new
@@ -104,7 +117,7 @@ pub record WritesShadow {T E : Type 0} (old : ChunkSet) (m : Seen) (at : ℕ) (b
   pub stopped : IsKnown old → IsTold m → OnErr result (StopsWrite old m.image at (blocks_of bytes) new m_new.image)
   pub memory_stopped : OnErr result (SplitsFirst (state_of old) (state_of new) (chunks_of old) (first_segment at) (chunks_end at (length bytes / 512)))
   pub master_within : IsTold m → ChangesIn old (first_segment at) (chunks_end at (length bytes / 512)) on_shadow m.image m_new.image
-  pub shadow_within : IsTold (disk_of old.shadow) → ChangesWithin (64 * first_segment at) (64 * chunks_end at (length bytes / 512) - 64 * first_segment at) (disk_of old.shadow).image (disk_of new.shadow).image
+  pub shadow_within : IsTold (disk_of old.shadow) → ChangesRange old at (length bytes / 512) on_master (disk_of old.shadow).image (disk_of new.shadow).image
   pub bitmap_within : IsTold old.areas.disk → ChangesWithin (state_block old (first_segment at)) (state_block old (chunks_end at (length bytes / 512) + 2047) - state_block old (first_segment at)) old.areas.disk.image new.areas.disk.image
   pub counts : OnOk result (Counts (disks_of old m) (to_master old (first_segment at) (chunks_end at (length bytes / 512)))
       (to_shadow old (first_segment at) (chunks_end at (length bytes / 512)) + length bytes / 512) (to_bitmap old (first_segment at) (chunks_end at (length bytes / 512))) (disks_of new m_new))

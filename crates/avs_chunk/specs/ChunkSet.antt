@@ -4,8 +4,9 @@ use Rattle.avs_seg.specs.Image.{Image, block_at, tabulate}
 use Rattle.avs_seg.specs.Segment.{seg_count}
 use Rattle.avs_dev.specs.Seen.{Seen, IsTold}
 use Rattle.avs_flip.specs.Areas.{Areas, live}
-use Rattle.avs_code.specs.Label.{IsLabel}
+use Rattle.avs_code.specs.Label.{IsLabel, label_for}
 use Rattle.avs_code.specs.declared.labels.Label.{Label}
+use Rattle.avs_code.specs.declared.labels.LabelUse.{LabelUse}
 use Rattle.avs_model.specs.declared.shadow.Kind.{Kind}
 use Rattle.avs_model.specs.declared.shadow.Kind.TheVariants.{Ind}
 use Rattle.avs_chunk.specs.States.{on_master, on_both, split, on_shadow, state_in, state_on, area_len}
@@ -78,9 +79,13 @@ pub record IsKnown (s : ChunkSet) : Type 0 where
   pub bitmap : IsTold s.areas.disk
   pub step : IsInStep s
 
--- the label of a bitmap that serves a set of so many blocks
+-- what a bitmap serves as that has the states of a set of so many blocks
+abbrev pub shadow_use : ℕ → LabelUse
+shadow_use blocks = record { kind = 5; blocks = blocks; segments = seg_count blocks }
+
+-- its label
 abbrev pub shadow_label : ℕ → Label
-shadow_label blocks = record { version = 1; kind = 5; blocks = blocks; segments = seg_count blocks; stamp = 0 }
+shadow_label blocks = label_for (shadow_use blocks) 0
 
 -- the bitmap's disk has the label of the set
 pub record HasLabel (s : ChunkSet) : Type 0 where

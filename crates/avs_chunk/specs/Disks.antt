@@ -1,5 +1,5 @@
 -- The three disks that a call works on, and what it makes of each.
-use Rattle.std.specs.Prelude.{◌≡◌, ◌⊎◌, ℕ, ◌+◌, ◌≤◌, ◌==◌, if◌then◌else◌, IsTrue, Result, OnOk, OnErr}
+use Rattle.std.specs.Prelude.{◌≡◌, ◌⊎◌, ℕ, ◌+◌, ◌-◌, ◌^◌, ◌≤◌, ◌==◌, min, if◌then◌else◌, IsTrue, Result, OnOk, OnErr}
 use Rattle.avs_seg.specs.Causes.{Rose}
 use Rattle.avs_dev.specs.Seen.{Seen, IsTold, UsesTear}
 use Rattle.avs_dev.specs.Memory.{counted}
@@ -57,8 +57,12 @@ pub record Counts (old : Disks) (on_master on_shadow on_bitmap : ℕ) (new : Dis
   pub shadow : new.shadow.written ≡ raised old.shadow.written on_shadow
   pub bitmap : new.bitmap.written ≡ raised old.bitmap.written on_bitmap
 
--- at most so many blocks more are written on each
+-- At most so many blocks more are written on each, and no count falls. A count stops at the greatest u64, and none of a disk
+-- is greater.
 pub record CountsAtMost (old : Disks) (on_master on_shadow on_bitmap : ℕ) (new : Disks) : Type 0 where
   pub master : new.master.written ≤ old.master.written + on_master
   pub shadow : new.shadow.written ≤ old.shadow.written + on_shadow
   pub bitmap : new.bitmap.written ≤ old.bitmap.written + on_bitmap
+  pub master_kept : min old.master.written (2 ^ 64 - 1) ≤ new.master.written
+  pub shadow_kept : min old.shadow.written (2 ^ 64 - 1) ≤ new.shadow.written
+  pub bitmap_kept : min old.bitmap.written (2 ^ 64 - 1) ≤ new.bitmap.written

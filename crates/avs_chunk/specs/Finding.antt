@@ -1,4 +1,4 @@
--- A set whose states are not looked at yet.
+-- A set whose states are not looked at yet, and the counts of the chunks of a set that stand on one disk alone.
 use Rattle.std.specs.Prelude.{◌≡◌, ℕ, ◌<◌, ◌==◌, false, Some, filter, length}
 use Rattle.std.specs.List.{range_with_len}
 use Rattle.avs_dev.specs.Seen.{Seen}

@@ -1,5 +1,5 @@
 -- How a set is made on disks and found again, and why not.
-use Rattle.std.specs.Prelude.{◌≡◌, ◌⊎◌, ℕ, ◌+◌, ◌*◌, ◌<◌, ◌≤◌, ◌==◌, Bool, false, IsTrue, if◌then◌else◌, List, ◌∷◌, length, Option, None, Some, Result, OnOk, OnErr}
+use Rattle.std.specs.Prelude.{◌≡◌, ◌⊎◌, ℕ, ◌+◌, ◌*◌, ◌<◌, ◌≤◌, Bool, false, IsTrue, List, ◌∷◌, length, Option, Some, Result, OnOk, OnErr}
 use Rattle.avs_seg.specs.Image.{Image, Block, block_at, put, blank, IsMix}
 use Rattle.avs_seg.specs.Segment.{seg_count}
 use Rattle.avs_seg.specs.Causes.{Rose}
@@ -7,14 +7,12 @@ use Rattle.avs_dev.specs.Seen.{Seen, IsTold, UsesTear}
 use Rattle.avs_dev.specs.Memory.{counted}
 use Rattle.avs_dev.specs.declared.back.Why.{Why}
 use Rattle.avs_dev.specs.declared.back.Why.TheVariants.{Size, BadRecord, NoMemory, Fault}
-use Rattle.avs_code.specs.Label.{IsLabel, label_block, label_rules}
-use Rattle.avs_code.specs.Rules.{first_broken}
-use Rattle.avs_code.specs.declared.labels.Label.{Label}
+use Rattle.avs_code.specs.Label.{IsLabel, IsBadLabel, label_block}
 use Rattle.avs_flip.specs.Areas.{Areas}
 use Rattle.avs_model.specs.declared.shadow.Kind.{Kind}
 use Rattle.avs_chunk.specs.States.{on_master, area_len, blocks_for, state_in, state_on}
 use Rattle.avs_chunk.specs.Disks.{IsSameDisk}
-use Rattle.avs_chunk.specs.ChunkSet.{ChunkSet, state_of, chunks_of, shadow_image, master_image, IsInStep, HasLabel, shadow_label}
+use Rattle.avs_chunk.specs.ChunkSet.{ChunkSet, state_of, chunks_of, shadow_image, master_image, IsInStep, HasLabel, shadow_use, shadow_label}
 
 -- the areas of a set of so many blocks on a disk: they lie behind the label
 abbrev pub areas_on : Seen → ℕ → Bool → Areas
@@ -80,23 +78,9 @@ MakeRefused shadow bitmap blocks (BadRecord field) shadow_new bitmap_new = ⊥
 MakeRefused shadow bitmap blocks NoMemory shadow_new bitmap_new = (shadow_new ≡ shadow) × (bitmap_new ≡ bitmap)
 MakeRefused shadow bitmap blocks Fault shadow_new bitmap_new = Fits (Some shadow) bitmap blocks × ((shadow_new ≡ shadow) × FailsFormat bitmap blocks bitmap_new)
 
--- the first field by which a label is another one than that of such a set: its kind, its blocks or its segments
-abbrev pub other_field : ℕ → Label → Option ℕ
-other_field blocks x = if x.kind == (shadow_label blocks).kind then (if x.blocks == blocks then (if x.segments == seg_count blocks then None else Some 4) else Some 3) else Some 2
-
--- the block is a label, but that of another use
-pub record IsOther (block : Block) (blocks field : ℕ) : Type 0 where
-  pub label : Label
-  pub is : IsLabel block label
-  pub differs : other_field blocks label ≡ Some field
-
--- the field of a block by which it is not the label of such a set
-abbrev pub IsBadLabel : Block → ℕ → ℕ → Type 0
-IsBadLabel block blocks field = (first_broken (label_rules block) ≡ Some field) ⊎ IsOther block blocks field
-
 -- a block is not the label of such a set, and this is the first field that tells so
 pub record IsNotLabel (block : Block) (blocks field : ℕ) : Type 0 where
-  pub bad : IsBadLabel block blocks field
+  pub bad : IsBadLabel block (shadow_use blocks) field
   pub other : IsLabel block (shadow_label blocks) → ⊥
 
 -- a set that is found on disks: nothing changes but the count of faults

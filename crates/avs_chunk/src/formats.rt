@@ -7,11 +7,11 @@ ghost use Rattle.avs_dev.specs.Seen.{IsTold};
 ghost use Rattle.avs_flip.specs.Areas.{live};
 ghost use Rattle.avs_code.specs.Label.{IsLabel, LabelKeeps};
 ghost use Rattle.avs_chunk.specs.States.{area_len, blocks_for};
-ghost use Rattle.avs_chunk.specs.ChunkSet.{IsClean, shadow_label};
-ghost use Rattle.avs_chunk.specs.Making.{HaveRoom, LacksShadow, LacksBitmap, RoomRefused, Formats, ReadRefused, StatesRefused, HasArea, IsNotLabel, areas_on, other_field};
+ghost use Rattle.avs_chunk.specs.ChunkSet.{IsClean, shadow_use, shadow_label};
+ghost use Rattle.avs_chunk.specs.Making.{HaveRoom, LacksShadow, LacksBitmap, RoomRefused, Formats, ReadRefused, StatesRefused, HasArea, IsNotLabel, areas_on};
 
 use crate::states::{STATES, clear_from};
-use avs_code::{BadRecord, Label, get_label, put_label};
+use avs_code::{BadRecord, Label, LabelUse, get_label_of, put_label};
 use avs_dev::{Disk, Why};
 use avs_seg::{BLOCK, Failed, NoMemory, SEGMENT, seg_count};
 use std::alloc::Global;
@@ -75,16 +75,32 @@ pub(crate) fn make_room(
     })
 }
 
+// What the bitmap of a set of so many blocks serves as.
+fn shadow_use(blocks: u32) -> LabelUse
+    ensures { result ≡ shadow_use blocks }
+{
+    LabelUse {
+        kind: Label::SHADOW_BITMAP,
+        blocks,
+        segments: seg_count(blocks),
+    }
+}
+
 // The label of a set of so many blocks.
 fn shadow_label(blocks: u32) -> Label
     ensures is { result ≡ shadow_label blocks }
     ensures keeps { LabelKeeps result }
 {
+    let LabelUse {
+        kind,
+        blocks,
+        segments,
+    } = shadow_use(blocks);
     Label {
         version: 1,
-        kind: Label::SHADOW_BITMAP,
+        kind,
         blocks,
-        segments: seg_count(blocks),
+        segments,
         stamp: 0,
     }
 }
@@ -104,30 +120,13 @@ pub(crate) fn format<D: Disk>(disk: &mut D, blocks: u32, memory: &[u8]) -> Resul
     disk.write(1 + area_len(blocks), memory)
 }
 
-// Refuses a label that is that of another use.
-fn check_use(label: &Label, blocks: u32) -> Result<(), BadRecord>
-    ensures ok { OnOk result (label.now ≡ record (shadow_label blocks) { version = label.now.version; stamp = label.now.stamp }) }
-    ensures other { IfErr result (λ e. other_field blocks label.now ≡ Some e.0) }
-{
-    if label.kind != Label::SHADOW_BITMAP {
-        return Err(BadRecord(2));
-    }
-    if label.blocks != blocks {
-        return Err(BadRecord(3));
-    }
-    if label.segments != seg_count(blocks) {
-        return Err(BadRecord(4));
-    }
-    Ok(())
-}
-
 // Refuses a block that is not the label of a set of so many blocks.
 fn check_label(block: &[u8; BLOCK], blocks: u32) -> Result<(), BadRecord>
     ensures ok { OnOk result (IsLabel block.now (shadow_label blocks)) }
     ensures bad { IfErr result (λ e. IsNotLabel block.now blocks e.0) }
 {
-    let label = get_label(block)?;
-    check_use(&label, blocks)
+    get_label_of(block, shadow_use(blocks))?;
+    Ok(())
 }
 
 // Reads the label of a set of so many blocks.

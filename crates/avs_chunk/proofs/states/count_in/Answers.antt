@@ -1,5 +1,4 @@
-use Rattle.std.proofs.Common.{rules, ◌≡◌, ℕ, ◌+◌, ◌≤◌, Bool, true, false, cond, eqb, length, filter, sym, ◌∙◌, ap, arith}
-use Rattle.std.specs.List.{range_with_len}
+use Rattle.std.proofs.Common.{◌≡◌, ℕ, cond, eqb, ◌∙◌, ap, arith}
 use Rattle.avs_chunk.specs.States.{state_in}
 use Rattle.avs_chunk.proofs.Counts.{count_more, one_most}
 use Rattle.avs_chunk.proofs.states.count_in.Goals as goal

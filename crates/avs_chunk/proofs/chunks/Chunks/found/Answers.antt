@@ -1,4 +1,4 @@
-use Rattle.std.proofs.Common.{rules, ℕ, ◌≡◌, ◌∙◌, Some, subst, ap, List}
+use Rattle.std.proofs.Common.{rules, ℕ, ◌∙◌, Some, subst, ap, List}
 use Rattle.avs_chunk.specs.Making.{HaveRoom}
 use Rattle.avs_chunk.specs.States.{state_in}
 use Rattle.avs_chunk.specs.ChunkSet.{ChunkSet, state_of}
