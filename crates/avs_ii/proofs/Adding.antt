@@ -99,8 +99,7 @@ module _ (V : List Seen) (d : Seen) where
     whole = h.whole;
     area = h.area;
     first = h.first;
-    number = h.number;
-    online = h.online;
+    fits = h.fits;
     settled = h.settled;
     some = h.some;
     on = h.on;

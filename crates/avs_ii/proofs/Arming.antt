@@ -18,7 +18,7 @@ use Rattle.avs_ii.specs.Shape.{disk_shape, set_shape, shape_of}
 use Rattle.avs_ii.specs.Sound.{IsSound, AreSound, HoldsBlock}
 use Rattle.avs_ii.specs.Parts.{set_parts}
 use Rattle.avs_ii.specs.Making.{IsSetTold}
-use Rattle.avs_ii.specs.Calls.{ArmsGroup, written_of}
+use Rattle.avs_ii.specs.Calls.{ArmsGroup, written_of, on_set, on_each, no_tear}
 use Rattle.avs_ii.proofs.Making.{all_of, of_all}
 use Rattle.avs_ii.proofs.Shapes.{KeepsDisk, KeepsSet, shapes_at, told_set, keeps_disks, keeps_shape, keeps_told, keeps_group, settled_same, same_steady}
 use Rattle.avs_ii.proofs.Volumes.{sound_rest, rest_sound}
@@ -88,6 +88,14 @@ module _ {A D : Type 0} (seen : A → Seen) (state : Seen) (block : GroupBlock) 
 
 -- ---- a tear is armed
 
+-- a disk is as it was, but for the tear on it
+same_armed : (d d' : Seen) (result : Bool) → Arms d result d' → no_tear d' ≡ no_tear d
+same_armed d d' result arms = go result refl
+  where
+    go : (b : Bool) → result ≡ b → no_tear d' ≡ no_tear d
+    go true e = ap no_tear (arms.armed (subst (λ (x : Bool). IsTrue x) (sym e) refl))
+    go false e = ap no_tear (arms.unarmed (subst (λ (x : Bool). IsTrue (not x)) (sym e) refl))
+
 -- what arming keeps of a disk
 keeps_quiet : (d d' : Seen) → quiet d' ≡ quiet d → KeepsDisk d d'
 keeps_quiet d d' same = record {
@@ -138,11 +146,7 @@ module _ (state : Seen) (block : GroupBlock) (V : List Seen) (sets : List HeldSe
   disks_now = ap (λ (l : List Seen). state ∷ l) (sym (set-append_left V (others sets) place m' lt)) ∙ ap (λ (k : ℕ). set (disks_of a) k m') (sym is)
 
   quiet_m : quiet m' ≡ quiet m
-  quiet_m = go result refl
-    where
-      go : (b : Bool) → result ≡ b → quiet m' ≡ quiet m
-      go true e = ap quiet (arms.armed (subst (λ (x : Bool). IsTrue x) (sym e) refl))
-      go false e = ap quiet (arms.unarmed (subst (λ (x : Bool). IsTrue (not x)) (sym e) refl))
+  quiet_m = ap quiet (same_armed m m' result arms)
 
   pub size_m' : m'.size ≡ m.size
   size_m' = ap (λ (d : Seen). d.size) quiet_m
@@ -158,6 +162,7 @@ module _ (state : Seen) (block : GroupBlock) (V : List Seen) (sets : List HeldSe
     answer = arms.answer ∙ ap arms_at (sym got);
     armed = λ so. disks_now ∙ ap (λ (d : Seen). set (disks_of a) disk d) (arms.armed so ∙ ap (λ (d : Seen). record d { armed = true }) (sym there));
     unarmed = λ not_so. ap (λ (l : List Seen). as_group state block l sets) (ap (λ (d : Seen). set V place d) (arms.unarmed not_so ∙ at ∙ same_own V place m lt) ∙ set-get_or V place state);
+    rest = ap (λ (l : List Seen). record (on_each no_tear a) { volumes = l }) (map-set_same no_tear V place m' m (same_armed m m' result arms ∙ ap no_tear at));
     block = refl;
     group = group;
     shape = arms_shape;
@@ -191,6 +196,7 @@ state_arms state state' block V sets result arms sure = record {
   answer = arms.answer;
   armed = λ so. ap (λ (d : Seen). d ∷ V ++ others sets) (arms.armed so);
   unarmed = λ not_so. ap (λ (d : Seen). as_group d block V sets) (arms.unarmed not_so);
+  rest = ap (λ (d : Seen). record (on_each no_tear (as_group state block V sets)) { state = d }) (same_armed state state' result arms);
   block = refl;
   group = ap (λ (d : Seen). meaning (as_group d block V sets)) same;
   shape = shape;
@@ -201,11 +207,7 @@ state_arms state state' block V sets result arms sure = record {
 }
   where
     same : quiet state' ≡ quiet state
-    same = go result refl
-      where
-        go : (b : Bool) → result ≡ b → quiet state' ≡ quiet state
-        go true e = ap quiet (arms.armed (subst (λ (x : Bool). IsTrue x) (sym e) refl))
-        go false e = ap quiet (arms.unarmed (subst (λ (x : Bool). IsTrue (not x)) (sym e) refl))
+    same = ap quiet (same_armed state state' result arms)
 
     holds : HoldsBlock state block → HoldsBlock state' block
     holds h =
@@ -226,6 +228,7 @@ arms_nothing x disk none = record {
   answer = ap arms_at (sym none);
   armed = λ so. cc;
   unarmed = λ so. refl;
+  rest = refl;
   block = refl;
   group = refl;
   shape = refl;
@@ -237,17 +240,6 @@ arms_nothing x disk none = record {
 
 -- ---- a tear on a disk of the set
 
-quiet_armed : (d : Seen) (b : Bool) → quiet (record d { armed = b }) ≡ quiet d
-quiet_armed d b = refl
-
--- the disks of a set, one of them armed
-record SameQuiet (c c' : ChunkSet) : Type 0 where
-  shadow : option_map quiet c'.shadow ≡ option_map quiet c.shadow
-  bitmap : quiet c'.areas.disk ≡ quiet c.areas.disk
-
-first_of : List Seen → Seen → Seen
-first_of l d = get_or l 0 d
-
 head_same : (x y : Seen) (l m : List Seen) → x ∷ l ≡ y ∷ m → x ≡ y
 head_same x y l m e = ap (λ (k : List Seen). get_or k 0 x) e
 
@@ -255,19 +247,19 @@ tail_same : (x y : Seen) (l m : List Seen) → x ∷ l ≡ y ∷ m → l ≡ m
 tail_same x y l m e = ap (λ (k : List Seen). drop 1 k) e
 
 -- a pair of disks, of which one is armed
-pair_armed : (s b s' b' d : Seen) (k : ℕ) → slice_get (s ∷ b ∷ []) k ≡ Some d → s' ∷ b' ∷ [] ≡ set (s ∷ b ∷ []) k (record d { armed = true }) → (quiet s' ≡ quiet s) × (quiet b' ≡ quiet b)
+pair_armed : (s b s' b' d : Seen) (k : ℕ) → slice_get (s ∷ b ∷ []) k ≡ Some d → s' ∷ b' ∷ [] ≡ set (s ∷ b ∷ []) k (record d { armed = true }) → (no_tear s' ≡ no_tear s) × (no_tear b' ≡ no_tear b)
 pair_armed s b s' b' d zero got now =
     let is : s ≡ d = ap (λ (o : Option Seen). option_map_or (λ (x : Seen). x) o s) got in
-    (ap quiet (head_same s' (record d { armed = true }) (b' ∷ []) (b ∷ []) now) ∙ ap quiet (sym is), ap quiet (head_same b' b [] [] (tail_same s' (record d { armed = true }) (b' ∷ []) (b ∷ []) now)))
+    (ap no_tear (head_same s' (record d { armed = true }) (b' ∷ []) (b ∷ []) now) ∙ ap no_tear (sym is), ap no_tear (head_same b' b [] [] (tail_same s' (record d { armed = true }) (b' ∷ []) (b ∷ []) now)))
 pair_armed s b s' b' d (suc zero) got now =
     let is : b ≡ d = ap (λ (o : Option Seen). option_map_or (λ (x : Seen). x) o b) got in
-    (ap quiet (head_same s' s (b' ∷ []) (record d { armed = true } ∷ []) now), ap quiet (head_same b' (record d { armed = true }) [] [] (tail_same s' s (b' ∷ []) (record d { armed = true } ∷ []) now)) ∙ ap quiet (sym is))
+    (ap no_tear (head_same s' s (b' ∷ []) (record d { armed = true } ∷ []) now), ap no_tear (head_same b' (record d { armed = true }) [] [] (tail_same s' s (b' ∷ []) (record d { armed = true } ∷ []) now)) ∙ ap no_tear (sym is))
 pair_armed s b s' b' d (suc (suc k)) got now = cc
 
-option_quiet : (o o' : Option Seen) → IsTrue (is_some o) → IsTrue (is_some o') → quiet (disk_of o') ≡ quiet (disk_of o) → option_map quiet o' ≡ option_map quiet o
-option_quiet None o' t t' e = cc
-option_quiet (Some d) None t t' e = cc
-option_quiet (Some d) (Some d') t t' e = ap (λ (x : Seen). Some x) e
+option_same : (f : Seen → Seen) (o o' : Option Seen) → IsTrue (is_some o) → IsTrue (is_some o') → f (disk_of o') ≡ f (disk_of o) → option_map f o' ≡ option_map f o
+option_same f None o' t t' e = cc
+option_same f (Some d) None t t' e = cc
+option_same f (Some d) (Some d') t t' e = ap (λ (x : Seen). Some x) e
 
 get_there : (l : List Seen) (i : ℕ) (d e : Seen) → slice_get l i ≡ Some d → get_or l i e ≡ d
 get_there [] i d e got = cc
@@ -302,8 +294,8 @@ module _ (state : Seen) (block : GroupBlock) (V : List Seen) (h : HeldSet) (disk
   now : result ≡ true → (d : Seen) → slice_get (disks_there h.chunks) k ≡ Some d → disks_there c' ≡ set (disks_there h.chunks) k (record d { armed = true })
   now so d got = arms.armed (subst (λ (b : Bool). IsTrue b) (sym so) refl) d got
 
-  quiet_two : (result ≡ true) → (quiet (disk_of c'.shadow) ≡ quiet (disk_of h.chunks.shadow)) × (quiet c'.areas.disk ≡ quiet h.chunks.areas.disk)
-  quiet_two so =
+  tear_two : (result ≡ true) → (no_tear (disk_of c'.shadow) ≡ no_tear (disk_of h.chunks.shadow)) × (no_tear c'.areas.disk ≡ no_tear h.chunks.areas.disk)
+  tear_two so =
       let found = some_disk so in
       let d = found.0 in
       let two = disks_two h.chunks there in
@@ -311,21 +303,24 @@ module _ (state : Seen) (block : GroupBlock) (V : List Seen) (h : HeldSet) (disk
       (ap (λ (l : List Seen). slice_get l k) (sym two) ∙ found.1)
       (sym (disks_two c' there_after) ∙ now so d found.1 ∙ ap (λ (l : List Seen). set l k (record d { armed = true })) two)
 
-  quiet_both : (quiet (disk_of c'.shadow) ≡ quiet (disk_of h.chunks.shadow)) × (quiet c'.areas.disk ≡ quiet h.chunks.areas.disk)
-  quiet_both = go result refl
+  tear_both : (no_tear (disk_of c'.shadow) ≡ no_tear (disk_of h.chunks.shadow)) × (no_tear c'.areas.disk ≡ no_tear h.chunks.areas.disk)
+  tear_both = go result refl
     where
-      go : (b : Bool) → result ≡ b → (quiet (disk_of c'.shadow) ≡ quiet (disk_of h.chunks.shadow)) × (quiet c'.areas.disk ≡ quiet h.chunks.areas.disk)
-      go true e = quiet_two e
-      go false e = let same = arms.unarmed (subst (λ (x : Bool). IsTrue (not x)) (sym e) refl) in (ap (λ (c : ChunkSet). quiet (disk_of c.shadow)) same, ap (λ (c : ChunkSet). quiet c.areas.disk) same)
+      go : (b : Bool) → result ≡ b → (no_tear (disk_of c'.shadow) ≡ no_tear (disk_of h.chunks.shadow)) × (no_tear c'.areas.disk ≡ no_tear h.chunks.areas.disk)
+      go true e = tear_two e
+      go false e = let same = arms.unarmed (subst (λ (x : Bool). IsTrue (not x)) (sym e) refl) in (ap (λ (c : ChunkSet). no_tear (disk_of c.shadow)) same, ap (λ (c : ChunkSet). no_tear c.areas.disk) same)
+
+  set_same : (f : Seen → Seen) → f (disk_of c'.shadow) ≡ f (disk_of h.chunks.shadow) → f c'.areas.disk ≡ f h.chunks.areas.disk → on_set f (record h { chunks = c' }) ≡ on_set f h
+  set_same f shadow bitmap =
+      ap (λ (c : ChunkSet). on_set f (record h { chunks = c })) arms.rest
+      ∙ ap (λ (o : Option Seen). record h { chunks = record h.chunks { shadow = o; areas = record h.chunks.areas { disk = f c'.areas.disk } } }) (option_same f h.chunks.shadow c'.shadow there there_after shadow)
+      ∙ ap (λ (x : Seen). record h { chunks = record h.chunks { shadow = option_map f h.chunks.shadow; areas = record h.chunks.areas { disk = x } } }) bitmap
 
   set_quiet : quiet_set (record h { chunks = c' }) ≡ quiet_set h
-  set_quiet =
-      ap (λ (c : ChunkSet). quiet_set (record h { chunks = c })) arms.rest
-      ∙ ap (λ (o : Option Seen). record h { chunks = record h.chunks { shadow = o; areas = record h.chunks.areas { disk = quiet c'.areas.disk } } }) (option_quiet h.chunks.shadow c'.shadow there there_after quiet_both.0)
-      ∙ ap (λ (x : Seen). record h { chunks = record h.chunks { shadow = option_map quiet h.chunks.shadow; areas = record h.chunks.areas { disk = x } } }) quiet_both.1
+  set_quiet = set_same quiet (ap quiet tear_both.0) (ap quiet tear_both.1)
 
   keeps_armed : KeepsSet h c'
-  keeps_armed = keeps_disks h c' arms.rest arms.still_there (keeps_quiet (disk_of h.chunks.shadow) (disk_of c'.shadow) quiet_both.0) (keeps_quiet h.chunks.areas.disk c'.areas.disk quiet_both.1)
+  keeps_armed = keeps_disks h c' arms.rest arms.still_there (keeps_quiet (disk_of h.chunks.shadow) (disk_of c'.shadow) (ap quiet tear_both.0)) (keeps_quiet h.chunks.areas.disk c'.areas.disk (ap quiet tear_both.1))
 
   set_shape_same : shape_of s' ≡ shape_of s
   set_shape_same = λ i. record { state = disk_shape state; volumes = map disk_shape V; sets = keeps_shape h c' keeps_armed i ∷ [] }
@@ -335,6 +330,7 @@ module _ (state : Seen) (block : GroupBlock) (V : List Seen) (h : HeldSet) (disk
     answer = arms.answer ∙ answer_as (slice_get (disks_there h.chunks) k) ∙ ap arms_at (sym own_disk);
     armed = λ so. armed (is_true result so);
     unarmed = λ not_so. ap (λ (c : ChunkSet). as_group state block V (record h { chunks = c } ∷ [])) (arms.unarmed not_so);
+    rest = ap (λ (x : HeldSet). record (on_each no_tear s) { sets = x ∷ [] }) (set_same no_tear tear_both.0 tear_both.1);
     block = refl;
     group = let b = kept_on state in
         sym (group_quiet b.slots b.note V (record h { chunks = c' }))

@@ -27,14 +27,17 @@ use Rattle.avs_ii.specs.Meaning.{group_by, shadow_of, disk_image}
 use Rattle.avs_ii.specs.Sound.{IsSoundSet, HasNoneBack}
 use Rattle.avs_ii.specs.Saved.{WritesMaster, IsSettledInMemory}
 use Rattle.avs_ii.specs.Kept.{IsHeld, IsKept}
-use Rattle.avs_ii.specs.Calls.{written_on}
-use Rattle.avs_ii.specs.AsBelow.{below_of, rest_of, quiet, quiet_set, group_of, IsSoundRest, WroteRest}
+use Rattle.avs_ii.specs.Making.{no_faults}
+use Rattle.avs_ii.specs.Calls.{written_on, on_each}
+use Rattle.avs_ii.specs.AsBelow.{below_of, rest_of, quiet, quiet_set, group_of, IsSoundRest, WroteRest, AreFindable}
+use Rattle.avs_ii.proofs.OpenSets.{fits_online}
 use Rattle.avs_ii.proofs.Writes.{Ready, none_after, image_now, images_now, image_at, master_done, master_stopped, volume_done, volume_stopped, slots_other}
 use Rattle.avs_ii.proofs.Marks.{with_one}
 use Rattle.avs_ii.proofs.Forms.{group_none, group_pending, group_one, set_state}
 use Rattle.avs_ii.proofs.Groups.{three_later, three_rose, three_armed, three_used, three_steady, three_are_steady}
 use Rattle.avs_ii.proofs.Shapes.{keeps_group, keeps_written, shapes_at, same_disk}
 use Rattle.avs_ii.proofs.Quiet.{group_quiet, group_quiet_none, quiet_sound, sound_one, told_at}
+use Rattle.avs_ii.proofs.Findable.{findable_one, one_findable, quiet_findable, findable_quiet, findable_kept}
 
 abbrev pub as_group : Seen → GroupBlock → List Seen → List HeldSet → IiDisks
 as_group state block volumes sets = record { state = state; block = block; volumes = volumes; sets = sets }
@@ -77,7 +80,7 @@ module _ (V : List Seen) (vol : ℕ) (m m' : Seen) (there : vol < length V) (dis
 
 -- a set stays in a group whose volumes keep their sizes
 pub held_same : (slots : List Slot) (V V' : List Seen) (s : HeldSet) → map (λ (d : Seen). d.size) V' ≡ map (λ (d : Seen). d.size) V → length V' ≡ length V → IsHeld slots V s → IsHeld slots V' s
-held_same slots V V' s sizes long h = record { slot = h.slot; master = omega (arith, h.master, long); there = h.there; blocks = ap (λ (l : List ℕ). slice_index l s.master) sizes ∙ h.blocks; whole = h.whole; area = h.area; first = h.first; number = h.number; online = h.online; settled = h.settled; some = h.some; on = h.on }
+held_same slots V V' s sizes long h = record { slot = h.slot; master = omega (arith, h.master, long); there = h.there; blocks = ap (λ (l : List ℕ). slice_index l s.master) sizes ∙ h.blocks; whole = h.whole; area = h.area; first = h.first; fits = h.fits; settled = h.settled; some = h.some; on = h.on }
 
 pub both_true : (a b : Bool) → (a && b) ≡ true → (a ≡ true) × (b ≡ true)
 both_true true true t = (refl, refl)
@@ -100,7 +103,7 @@ module _ (state : Seen) (block : GroupBlock) (V : List Seen) (h : HeldSet) (kept
   size_is = sym (size_at V vol m m there disk) ∙ ap (λ (k : ℕ). slice_index (map (λ (d : Seen). d.size) V) k) (sym is) ∙ own.blocks
 
   ready : Ready block.slots V h m
-  ready = record { live = live; area = own.area live; online = own.online live; slot = own.slot; there = own.master; disk = disk ∙ ap (λ (k : ℕ). slice_index_or V k m) (sym is); size = size_is }
+  ready = record { live = live; area = own.area live; online = fits_online (slot_in block.slots h.slot) h.chunks.kind (own.fits live); slot = own.slot; there = own.master; disk = disk ∙ ap (λ (k : ℕ). slice_index_or V k m) (sym is); size = size_is }
 
   module _ (at : ℕ) (bytes : List ℕ) (c' : ChunkSet) (m' : Seen) (stays : Stays h.chunks c') (same : AreSameDisks (calls.disks_of h.chunks m) (calls.disks_of c' m')) (settled : IsSettledInMemory c') where
     abbrev h' : HeldSet
@@ -226,6 +229,9 @@ module _ (state : Seen) (block : GroupBlock) (V : List Seen) (h : HeldSet) (kept
       })));
     }
 
+    found_after : AreFindable (rest_of g) → AreFindable (rest_of g')
+    found_after found = findable_one block.slots (quiet_set h') (λ l. quiet_findable h' (findable_kept h c' stays own.settled same.bitmap.told (findable_quiet h (one_findable block.slots (quiet_set h) found l))))
+
     written_set : written_on (rest_of g').volumes ≡ set (written_on (rest_of g).volumes) vol m'.written
     written_set = written_at V vol m m' there disk
 
@@ -239,6 +245,7 @@ module _ (state : Seen) (block : GroupBlock) (V : List Seen) (h : HeldSet) (kept
         stopped = λ sound ok. cc;
         sound = λ sound ok. sound_after (w.known (sound_set sound).known (sound_told sound))
             (none_after h.chunks c' _ _ stays.blocks (sound_set sound).none_back (w.split (sound_set sound).known (sound_told sound))) sound (same.master.told (sound_told sound));
+        findable = found_after;
         counts = λ ok. written_set ∙ ap (λ (n : ℕ). set (written_on (rest_of g).volumes) vol n) (w.counted ∙ ap (λ (n : ℕ). min (n + length bytes / 512) (2 ^ 64 - 1)) (sym (written_was V vol m m' there disk)));
       }
       master_wrote (Err f) w = record {
@@ -248,6 +255,7 @@ module _ (state : Seen) (block : GroupBlock) (V : List Seen) (h : HeldSet) (kept
         stopped = λ sound ok. as_rest (λ a b. StoppedIn a (stages a) b) (subst (λ (k : ℕ). StoppedIn (group_by block.slots [] V (h ∷ [])) (volume_write_stages (group_by block.slots [] V (h ∷ [])).sets k at (blocks_of bytes)) (group_by block.slots [] (set V h.master m') (h' ∷ []))) is
             (master_stopped block.slots [] V h m ready (sound_set sound).none_back (sound_set sound).known (sound_told sound) c' m' at bytes range inside f w));
         sound = λ sound ok. cc;
+        findable = found_after;
         counts = λ ok. cc;
       }
 
@@ -336,6 +344,7 @@ module _ (state : Seen) (block : GroupBlock) (V : List Seen) (sets : List HeldSe
       done = λ sound ok. done sound (w.done (told_at V vol m sound.told there disk));
       stopped = λ sound ok. cc;
       sound = λ sound ok. v_sound sound (w.told (told_at V vol m sound.told there disk));
+      findable = λ found. found;
       counts = λ ok. written_at V vol m m' there disk ∙ ap (λ (n : ℕ). set (written_on (rest_of p).volumes) vol n) (w.counted ∙ ap (λ (n : ℕ). min (n + length bytes / 512) (2 ^ 64 - 1)) (sym (written_was V vol m m' there disk)));
     }
     v_wrote (Err f) w = record {
@@ -344,6 +353,7 @@ module _ (state : Seen) (block : GroupBlock) (V : List Seen) (sets : List HeldSe
       done = λ sound ok. cc;
       stopped = λ sound ok. stopped sound (w.failed (told_at V vol m sound.told there disk));
       sound = λ sound ok. cc;
+      findable = λ found. found;
       counts = λ ok. cc;
     }
 
@@ -479,6 +489,9 @@ module _ (state : Seen) (block : GroupBlock) (V : List Seen) (sets : List HeldSe
 
   pub v_reads_rest : rest_of b' ≡ rest_of b
   v_reads_rest = ap (λ (l : List Seen). record (rest_of b) { volumes = l }) (map-set_same quiet V vol m' m (ap quiet (w.rest ∙ ap (λ (d : Seen). record d { faults = m'.faults }) disk)))
+
+  pub v_reads_same : on_each no_faults b' ≡ on_each no_faults b
+  v_reads_same = ap (λ (l : List Seen). record (on_each no_faults b) { volumes = l }) (map-set_same no_faults V vol m' m (ap (λ (d : Seen). no_faults d) (w.rest ∙ ap (λ (d : Seen). record d { faults = m'.faults }) disk)))
 
   pub v_reads_kept : IsKept state block V sets → IsKept state block (set V vol m') sets
   v_reads_kept kept = v_kept state block V sets vol m m' there disk (ap (λ (d : Seen). d.size) w.rest) kept

@@ -19,19 +19,20 @@ use Rattle.avs_model.specs.declared.answer.Refusal.{Refusal}
 use Rattle.avs_model.specs.declared.answer.Refusal.TheVariants as refusal
 use Rattle.avs_model.specs.declared.shadow.Kind.{Kind}
 use Rattle.avs_model.specs.declared.shadow.Kind.TheVariants.{Ind, Dep, Compact}
-use Rattle.avs_ii.specs.Held.{HeldSet, IiDisks, slot_in, is_live, has_flag, live as live_flag, area_b, pending_at}
-use Rattle.avs_ii.specs.Meaning.{group_by, shadow_of, disk_image, kept_on, meaning, standing_of}
-use Rattle.avs_ii.specs.Sound.{IsSound, HoldsBlock, IsSoundSet, IsFresh, state_label}
+use Rattle.avs_ii.specs.Held.{HeldSet, IiDisks, enabled_in, slot_in, is_live, has_flag, live as live_flag, area_b, pending_at}
+use Rattle.avs_ii.specs.Meaning.{group_by, shadow_of, disk_image, kept_on, meaning}
+use Rattle.avs_ii.specs.Sound.{IsSound, HoldsBlock, IsSoundSet, IsFindable, IsFresh, state_label}
 use Rattle.avs_ii.specs.Kept.{IsHeld, IsKept}
-use Rattle.avs_ii.specs.Making.{kind_number}
-use Rattle.avs_ii.specs.Calls.{live_slot, block_with, Confirms}
+use Rattle.avs_ii.specs.Making.{kind_number, fits_slot}
+use Rattle.avs_ii.specs.Calls.{live_slot, block_with, Confirms, IsFoundAgain}
 use Rattle.avs_ii.proofs.Marks.{with_one}
 use Rattle.avs_ii.proofs.Forms.{with_none, group_pending, group_one}
 use Rattle.avs_ii.specs.Shape.{disk_shape, set_shape, shape_of}
-use Rattle.avs_ii.specs.Parts.{parts_of}
-use Rattle.avs_ii.specs.Making.{AreTold, AreWhole}
+use Rattle.avs_ii.specs.Parts.{set_parts, parts_of}
+use Rattle.avs_ii.specs.Making.{AreWhole, IsPlaced, IsLabelled, IsSetSettled}
 use Rattle.avs_ii.proofs.Shapes.{same_steady}
-use Rattle.avs_ii.proofs.Loading.{IsFindable, whole_parts}
+use Rattle.avs_ii.proofs.Findable.{findable_one}
+use Rattle.avs_ii.proofs.Loading.{whole_parts, whole_sound}
 use Rattle.avs_ii.proofs.Making.{the_group, master_len, all_of, of_all, kept_is, meaning_by, state_fresh, none_back_fresh, pending_one, found_only, none_some}
 
 -- ---- a write of the block
@@ -96,6 +97,12 @@ is_error (Err z) = true
 ok_err : {T : Type 0} (x : T) (y : Refusal) → Ok x ≡ Err y → ⊥
 ok_err x y e = false≢true (ap (λ r. is_error r) e)
 
+-- the slot of a set that becomes enabled fits its kind
+live_fits : (kind : Kind) → fits_slot (live_slot kind) kind ≡ true
+live_fits Ind = refl
+live_fits Dep = refl
+live_fits Compact = refl
+
 -- the block of a group in which a pending set is enabled
 module _ (block : GroupBlock) (s : HeldSet) (keeps : GroupBlockKeeps block) (fits : GroupBlockFits block) (slot_lt : s.slot < 16) where
   abbrev next : GroupBlock
@@ -144,8 +151,7 @@ module _ (state state' : Seen) (block : GroupBlock) (V : List Seen) (s : HeldSet
     whole = own.whole;
     area = λ _. own.first pending ∙ sym (area_now block s kept.keeps kept.fits own.slot);
     first = λ no. absurd (false≢true (sym no ∙ live_now block s kept.keeps kept.fits own.slot));
-    number = λ _. ap (λ (x : Slot). x.kind) (slot_now block s kept.keeps kept.fits own.slot);
-    online = λ _. ap (λ (x : Slot). standing_of x) (slot_now block s kept.keeps kept.fits own.slot);
+    fits = λ _. ap (λ (x : Slot). fits_slot x s.chunks.kind) (slot_now block s kept.keeps kept.fits own.slot) ∙ live_fits s.chunks.kind;
     settled = own.settled;
     some = own.some;
     on = own.on;
@@ -198,8 +204,19 @@ module _ (state state' : Seen) (block : GroupBlock) (V : List Seen) (s : HeldSet
   }
 
   -- a fresh set is found again, whatever the slots say of it
-  found_fresh : (slots : List Slot) → IsFresh s → All (IsFindable slots) (s ∷ [])
-  found_fresh slots fresh = all_of (IsFindable slots) s (record { label = λ l. fresh.label; none_back = λ l. none_back_fresh s.chunks fresh.states })
+  found_fresh : (slots : List Slot) → IsFresh s → All IsFindable (enabled_in slots (s ∷ []))
+  found_fresh slots fresh = findable_one slots s (λ l. record { told = fresh.known.bitmap; label = fresh.label; none_back = none_back_fresh s.chunks fresh.states })
+
+  -- another state disk with the same first two blocks
+  whole_same : state'.size ≡ state.size → block_at state'.image 0 ≡ block_at state.image 0 → block_at state'.image 1 ≡ block_at state.image 1 → AreWhole (parts_of (the_group state block V (s ∷ []))) → AreWhole (parts_of (the_group state' block V (s ∷ [])))
+  whole_same size first second whole = record {
+    state = omega (arith, whole.state, size);
+    label = subst (λ (b : Block). IsLabel b state_label) (sym first) whole.label;
+    block = subst (λ (b : Block). IsGroupBlock b (group_block_at b)) (sym second) whole.block;
+    placed = record { each = subst (λ (b : Block). All (IsPlaced (group_block_at b).slots V) (set_parts s ∷ [])) (sym second) whole.placed.each; one = whole.placed.one; count = whole.placed.count; none = whole.placed.none };
+    labelled = subst (λ (b : Block). All (IsLabelled (group_block_at b).slots V) (set_parts s ∷ [])) (sym second) whole.labelled;
+    settled = subst (λ (b : Block). All (IsSetSettled (group_block_at b).slots V) (set_parts s ∷ [])) (sym second) whole.settled;
+  }
 
   -- what a write of the block keeps, whatever it answers
   shape_kept : (b : GroupBlock) → state'.size ≡ state.size → state'.steady ≡ state.steady → shape_of (the_group state' b V (s ∷ [])) ≡ shape_of (the_group state block V (s ∷ []))
@@ -212,11 +229,11 @@ module _ (state state' : Seen) (block : GroupBlock) (V : List Seen) (s : HeldSet
     second_ok : IsTold state → block_at state'.image 1 ≡ group_block (block_with block s)
     second_ok told = ap (λ (l : Image). block_at l 1) (image_ok told) ∙ put_one state.image 1 (group_block (block_with block s)) 1 refl (omega (arith, told, kept.room))
 
-    holds_ok : HoldsBlock state block → HoldsBlock state' (block_with block s)
-    holds_ok h = record {
-      told = w.told h.told;
-      label = subst (λ (b : Block). IsLabel b state_label) (sym (ap (λ (l : Image). block_at l 0) (image_ok h.told) ∙ put_below state.image 1 (group_block (block_with block s) ∷ []) 0 (omega arith))) h.label;
-      holds = is_next h.told (second_ok h.told);
+    holds_ok : IsTold state → IsLabel (block_at state.image 0) state_label → HoldsBlock state' (block_with block s)
+    holds_ok told label = record {
+      told = w.told told;
+      label = subst (λ (b : Block). IsLabel b state_label) (sym (ap (λ (l : Image). block_at l 0) (image_ok told) ∙ put_below state.image 1 (group_block (block_with block s) ∷ []) 0 (omega arith))) label;
+      holds = is_next told (second_ok told);
     }
 
     pub kept_ok : IsKept state' (block_with block s) V (s ∷ [])
@@ -231,16 +248,18 @@ module _ (state state' : Seen) (block : GroupBlock) (V : List Seen) (s : HeldSet
       block = λ s' found. ap (λ (x : HeldSet). block_with block x) (same_set slot s' found);
       kept = tt;
       done = λ s' found sound. subst (λ (x : HeldSet). IsFresh x → meaning (the_group state' (block_with block s) V (s ∷ [])) ≡ after_enabling (meaning (the_group state block V (s ∷ []))) slot x.chunks.kind x.master) (same_set slot s' found) (λ fresh.
-          meaning_next (block_with block s) (kept_is state' (block_with block s) (holds_ok sound.holds)) sound.disks.told fresh
+          meaning_next (block_with block s) (kept_is state' (block_with block s) (holds_ok sound.holds.told sound.holds.label)) sound.disks.told fresh
           ∙ ap (λ (x : GroupState). after_enabling x s.slot s.chunks.kind s.master) (sym (meaning_old sound.holds))
           ∙ ap (λ (k : ℕ). after_enabling (meaning (the_group state block V (s ∷ []))) k s.chunks.kind s.master) is);
-      sound = λ s' found sound. subst (λ (x : HeldSet). IsFresh x → IsSound (the_group state' (block_with block s) V (s ∷ []))) (same_set slot s' found) (λ fresh. sound_next (holds_ok sound.holds) sound.disks.told fresh);
+      sound = λ s' found sound. subst (λ (x : HeldSet). IsFresh x → IsSound (the_group state' (block_with block s) V (s ∷ []))) (same_set slot s' found) (λ fresh. sound_next (holds_ok sound.holds.told sound.holds.label) sound.disks.told fresh);
       stopped = λ s' found sound fresh. tt;
       shape = shape_kept (block_with block s) w.size w.steady;
       still_steady = same_steady (the_group state block V (s ∷ [])) (the_group state' (block_with block s) V (s ∷ [])) (shape_kept (block_with block s) w.size w.steady);
       told = λ told. record { state = w.told told.state; volumes = told.volumes; sets = told.sets };
-      whole = λ s' found sound. subst (λ (x : HeldSet). IsFresh x → AreTold (parts_of (the_group state block V (s ∷ []))) → AreWhole (parts_of (the_group state' (block_with block s) V (s ∷ [])))) (same_set slot s' found) (λ fresh told.
-          whole_parts state' (block_with block s) V (s ∷ []) (omega arith) kept_ok (holds_ok sound.holds) (found_fresh (block_with block s).slots fresh));
+      whole = λ s' found. subst (λ (x : HeldSet). IsFresh x → IsFoundAgain (the_group state block V (s ∷ [])) (the_group state' (block_with block s) V (s ∷ []))) (same_set slot s' found) (λ fresh. record {
+        before = whole_sound state block V (s ∷ []) (omega arith) kept;
+        after = λ told whole. whole_parts state' (block_with block s) V (s ∷ []) (omega arith) kept_ok (holds_ok told.state whole.label) (found_fresh (block_with block s).slots fresh);
+      });
     }
 
   module _ (e : Failed) (w : Writes {T = Unit {0}} {E = Failed} state 1 (group_block (block_with block s)) (Err e) state') where
@@ -249,15 +268,6 @@ module _ (state state' : Seen) (block : GroupBlock) (V : List Seen) (s : HeldSet
 
     second_err : IsTold state → (block_at state'.image 1 ≡ block_at state.image 1) ⊎ (block_at state'.image 1 ≡ group_block (block_with block s))
     second_err told = (mix_err told).inside 1 (omega arith) (omega arith)
-
-    pub kept_err : IsKept state' block V (s ∷ [])
-    kept_err = record {
-      room = omega (arith, kept.room, w.size);
-      keeps = kept.keeps;
-      fits = kept.fits;
-      count = kept.count;
-      held = kept.held;
-    }
 
     stopped_err : HoldsBlock state block → All IsTold V → IsFresh s → (block_at state'.image 1 ≡ block_at state.image 1) ⊎ (block_at state'.image 1 ≡ group_block (block_with block s))
         → (meaning (the_group state' block V (s ∷ [])) ≡ meaning (the_group state block V (s ∷ []))) ⊎ (meaning (the_group state' block V (s ∷ [])) ≡ after_enabling (meaning (the_group state block V (s ∷ []))) s.slot s.chunks.kind s.master)
@@ -273,16 +283,12 @@ module _ (state state' : Seen) (block : GroupBlock) (V : List Seen) (s : HeldSet
     label_err : IsTold state → block_at state'.image 0 ≡ block_at state.image 0
     label_err told = (mix_err told).outside 0 (inl (omega arith))
 
-    whole_err : HoldsBlock state block → IsFresh s → (block_at state'.image 1 ≡ block_at state.image 1) ⊎ (block_at state'.image 1 ≡ group_block (block_with block s)) → AreWhole (parts_of (the_group state' block V (s ∷ [])))
-    whole_err h fresh (inl same) = whole_parts state' block V (s ∷ []) (omega arith) kept_err (record {
-      told = w.told h.told;
-      label = subst (λ (b : Block). IsLabel b state_label) (sym (label_err h.told)) h.label;
-      holds = subst (λ (b : Block). IsGroupBlock b block) (sym same) h.holds;
-    }) (found_fresh block.slots fresh)
-    whole_err h fresh (inr now) = whole_parts state' (block_with block s) V (s ∷ []) (omega arith) (kept_next w.size) (record {
-      told = w.told h.told;
-      label = subst (λ (b : Block). IsLabel b state_label) (sym (label_err h.told)) h.label;
-      holds = is_next h.told now;
+    whole_err : IsFresh s → IsTold state → AreWhole (parts_of (the_group state block V (s ∷ []))) → (block_at state'.image 1 ≡ block_at state.image 1) ⊎ (block_at state'.image 1 ≡ group_block (block_with block s)) → AreWhole (parts_of (the_group state' block V (s ∷ [])))
+    whole_err fresh told whole (inl same) = whole_same w.size (label_err told) same whole
+    whole_err fresh told whole (inr now) = whole_parts state' (block_with block s) V (s ∷ []) (omega arith) (kept_next w.size) (record {
+      told = w.told told;
+      label = subst (λ (b : Block). IsLabel b state_label) (sym (label_err told)) whole.label;
+      holds = is_next told now;
     }) (found_fresh (block_with block s).slots fresh)
 
     pub confirm_err : (slot : ℕ) → s.slot ≡ slot → Confirms {T = Unit {0}} (the_group state block V (s ∷ [])) slot (Err refusal.Fault) (the_group state' block V (s ∷ []))
@@ -301,8 +307,10 @@ module _ (state state' : Seen) (block : GroupBlock) (V : List Seen) (s : HeldSet
       shape = shape_kept block w.size w.steady;
       still_steady = same_steady (the_group state block V (s ∷ [])) (the_group state' block V (s ∷ [])) (shape_kept block w.size w.steady);
       told = λ told. record { state = w.told told.state; volumes = told.volumes; sets = told.sets };
-      whole = λ s' found sound. subst (λ (x : HeldSet). IsFresh x → AreTold (parts_of (the_group state block V (s ∷ []))) → AreWhole (parts_of (the_group state' block V (s ∷ [])))) (same_set slot s' found) (λ fresh told.
-          whole_err sound.holds fresh (second_err sound.holds.told));
+      whole = λ s' found. subst (λ (x : HeldSet). IsFresh x → IsFoundAgain (the_group state block V (s ∷ [])) (the_group state' block V (s ∷ []))) (same_set slot s' found) (λ fresh. record {
+        before = whole_sound state block V (s ∷ []) (omega arith) kept;
+        after = λ told whole. whole_err fresh told.state whole (second_err told.state);
+      });
     }
 
 -- no such set is pending
@@ -320,5 +328,5 @@ confirm_none g slot none = record {
   shape = refl;
   still_steady = refl;
   told = λ told. told;
-  whole = λ s found sound fresh told. absurd (none_some (sym none ∙ found));
+  whole = λ s found fresh. absurd (none_some (sym none ∙ found));
 }

@@ -1,4 +1,5 @@
 pub mod Marks
+pub mod Findable
 pub mod Forms
 pub mod Masters
 pub mod Several

@@ -1,8 +1,7 @@
 -- A group that is found on its parts or not, and taken apart.
-use Rattle.std.proofs.Common.{◌≡◌, ◌⊎◌, inl, inr, ℕ, zero, suc, ◌^◌, ◌<◌, ◌≤◌, Bool, true, false, cond, ◌&&◌, IsTrue, All, List, [], ◌∷◌, ◌++◌, length, map, Option, None, Some, is_some, refl, sym, ◌∙◌, ap, subst, arith}
+use Rattle.std.proofs.Common.{◌≡◌, ◌⊎◌, inl, inr, ℕ, zero, suc, ◌^◌, ◌<◌, ◌≤◌, Bool, true, false, not, cond, ◌&&◌, IsTrue, All, List, [], ◌∷◌, ◌++◌, length, map, Option, None, Some, is_some, refl, sym, ◌∙◌, ap, subst, arith}
 use Rattle.std.specs.List.{list_all, range_with_len}
 use Rattle.std.specs.Option.{option_map}
-use Rattle.std.proofs.lemmas.Bool.{false≢true}
 use Rattle.std.proofs.lemmas.List.{length-map, map-append, append-nil}
 use Rattle.std.proofs.lemmas.List.Folds.{list_all-append}
 use Rattle.avs_seg.specs.Image.{Image, block_at}
@@ -17,27 +16,28 @@ use Rattle.avs_code.specs.Label.{IsLabel}
 use Rattle.avs_code.specs.GroupBlock.{GroupBlockKeeps, GroupBlockFits, IsGroupBlock}
 use Rattle.avs_code.specs.declared.slot_table.Slot.{Slot}
 use Rattle.avs_code.specs.declared.group_blocks.GroupBlock.{GroupBlock}
-use Rattle.avs_model.specs.Shadows.{Online, Offline, Exported, Standing, GroupState}
+use Rattle.avs_model.specs.Shadows.{GroupState}
 use Rattle.avs_model.specs.declared.shadow.Kind.{Kind}
 use Rattle.avs_model.specs.declared.shadow.Kind.TheVariants.{Ind, Dep, Compact}
-use Rattle.avs_chunk.specs.States.{state_on, blocks_for}
-use Rattle.avs_chunk.specs.ChunkSet.{ChunkSet, HasLabel, disk_of, disk_state, both_disks, shadow_label}
+use Rattle.avs_chunk.specs.States.{on_master, state_on, blocks_for}
+use Rattle.avs_chunk.specs.ChunkSet.{ChunkSet, HasLabel, disk_of, disk_state, chunks_of, both_disks, shadow_label}
 use Rattle.avs_chunk.specs.Making.{areas_on}
 use Rattle.avs_ii.specs.Shape.{disk_shape, set_shape, shape_of, parts_shape}
-use Rattle.avs_ii.specs.Held.{HeldSet, disks_of, slot_in, is_live, has_flag, area_b, offline, exported, enabled_in}
-use Rattle.avs_ii.specs.Meaning.{group_by, meaning, kept_on, standing_of, picked, disk_image, shadow_by}
-use Rattle.avs_ii.specs.Sound.{HoldsBlock, IsSoundSet, HasNoneBack, AreSound}
+use Rattle.avs_ii.specs.Held.{HeldSet, disks_of, slot_in, is_live, has_flag, area_b, enabled_in, pending_in}
+use Rattle.avs_ii.specs.Meaning.{group_by, meaning, kept_on, picked, disk_image, shadow_by}
+use Rattle.avs_ii.specs.Sound.{HoldsBlock, IsSoundSet, HasNoneBack, IsSound, IsFindable}
 use Rattle.avs_ii.specs.Kept.{IsHeld, IsKept}
 use Rattle.avs_ii.specs.SetDisks.{SetDisks}
 use Rattle.avs_ii.specs.Parts.{PartDisks, size_of, held_on, set_parts, parts_of, meaning_of_parts}
-use Rattle.avs_ii.specs.Making.{IsPlaced, ArePlaced, IsLabelled, IsSetSettled, IsSetTold, AreTold, AreWhole, FitsSlot, StateRefused, Loads, LoadRefused, WhyNotFound, no_faults, set_no_faults, parts_no_faults, disks_in, between, kind_number}
+use Rattle.avs_ii.specs.Making.{IsPlaced, ArePlaced, IsLabelled, IsSetSettled, IsSetTold, AreTold, AreWhole, StateRefused, IsMade, StaysMade, IsFoundPending, Loads, LoadRefused, WhyNotFound, no_faults, set_no_faults, parts_no_faults, disks_in, between, fits_slot, IsStateDisk, IsBadBitmap, IsBadSet, IsGoodSet}
 use Rattle.avs_ii.specs.Opening.{live_area, OpensChunks, OpensSet, WhyNotOpened, SetRefused, OpensOne, RefusesOne, AreFew}
 use Rattle.avs_dev.specs.Below.{IsNoteTold}
-use Rattle.avs_ii.specs.AsBelow.{below_of, rest_of, group_of}
+use Rattle.avs_ii.specs.AsBelow.{below_of, rest_of, group_of, quiet_set, AreFindable}
 use Rattle.avs_ii.proofs.Quiet.{group_quiet, group_quiet_none}
-use Rattle.avs_ii.proofs.Commits.{stored_some}
+use Rattle.avs_ii.proofs.Commits.{Stored, slots_keep, stored_some}
 use Rattle.avs_ii.proofs.Several.{fell_nil, fell_same, fell_cons, fell_append, rose_here, rose_there, rose_right}
 use Rattle.avs_ii.proofs.Making.{the_group, kept_is, all_none, all_of, of_all}
+use Rattle.avs_ii.proofs.Findable.{with_area, findable_one, one_findable, sound_findable, findable_quiet}
 
 -- ---- a set that is opened
 
@@ -63,11 +63,6 @@ module _ (slots : List Slot) (V : List Seen) (s : SetDisks) (chunks : ChunkSet) 
   bitmap_size : chunks.areas.disk.size ≡ s.bitmap.size
   bitmap_size = ap (λ (d : Seen). d.size) o.disk
 
-  online_is : (slot : Slot) → has_flag offline slot ≡ false → has_flag exported slot ≡ false → standing_of slot ≡ Online
-  online_is slot off exp =
-      ap (λ (b : Bool). cond b (Exported slot.stamp) (cond (has_flag offline slot) (Offline slot.need slot.slots) Online)) exp
-      ∙ ap (λ (b : Bool). cond b (Offline slot.need slot.slots) Online) off
-
   held_opened : IsHeld slots V held
   held_opened = record {
     slot = placed.slot;
@@ -77,8 +72,7 @@ module _ (slots : List Slot) (V : List Seen) (s : SetDisks) (chunks : ChunkSet) 
     whole = subst (λ (k : Kind). (k ≡ Ind) ⊎ (k ≡ Dep)) (sym (ap (λ (c : ChunkSet). c.kind) o.is)) placed.whole;
     area = area_is;
     first = first_is;
-    number = λ l. (placed.fits l).number ∙ ap (λ (k : Kind). kind_number k) (sym (ap (λ (c : ChunkSet). c.kind) o.is));
-    online = λ l. online_is (slot_in slots s.slot) (placed.fits l).online (placed.fits l).here;
+    fits = λ l. ap (λ (c : ChunkSet). fits_slot (slot_in slots s.slot) c.kind) o.is ∙ placed.fits l;
     settled = o.settled;
     some = omega (arith, placed.some, blocks_are);
     on = record {
@@ -125,6 +119,31 @@ module _ (slots : List Slot) (V : List Seen) (s : SetDisks) (chunks : ChunkSet) 
       by_live : (b : Bool) → is_live slots s.slot ≡ b → All (IsSoundSet slots) (cond (is_live slots s.slot) (held ∷ []) [])
       by_live true l = subst (λ (b : Bool). All (IsSoundSet slots) (cond b (held ∷ []) [])) (sym l) (all_of (IsSoundSet slots) held (sound_opened told l))
       by_live false l = subst (λ (b : Bool). All (IsSoundSet slots) (cond b (held ∷ []) [])) (sym l) (all_none (IsSoundSet slots))
+
+  -- what is found where nothing was read
+  pending_opened : is_live slots s.slot ≡ false → IsFoundPending V held
+  pending_opened l = record {
+    area = first_is l;
+    memory = o.pending l;
+    fresh = λ made. record {
+      known = record { shadow = made.told.shadow; bitmap = made.told.bitmap; step = record { each = λ c lt. o.pending l c lt ∙ sym (on_disk made c lt) } };
+      label = record { label = subst (λ (n : ℕ). IsLabel (block_at chunks.areas.disk.image 0) (shadow_label n)) (sym blocks_are) made.label };
+      area = first_is l;
+      states = on_disk made;
+    };
+  }
+    where
+      on_disk : IsMade V (set_parts held) → (c : ℕ) → c < chunks_of chunks → disk_state chunks c ≡ on_master
+      on_disk made c lt =
+          ap (λ (a : Areas). state_on (live a) c) (ap (λ (x : ChunkSet). x.areas) o.is ∙ ap (λ (b : Bool). areas_on chunks.areas.disk (size_of V s.master) (cond b (has_flag area_b (slot_in slots s.slot)) false)) l)
+          ∙ made.states c (subst (λ (n : ℕ). c < seg_count n) blocks_are lt)
+
+  pendings_opened : All (IsFoundPending V) (pending_in slots (held ∷ []))
+  pendings_opened = by_live (is_live slots s.slot) refl
+    where
+      by_live : (b : Bool) → is_live slots s.slot ≡ b → All (IsFoundPending V) (cond (not (is_live slots s.slot)) (held ∷ []) [])
+      by_live true l = subst (λ (b : Bool). All (IsFoundPending V) (cond (not b) (held ∷ []) [])) (sym l) (all_none (IsFoundPending V))
+      by_live false l = subst (λ (b : Bool). All (IsFoundPending V) (cond (not b) (held ∷ []) [])) (sym l) (all_of (IsFoundPending V) held (pending_opened l))
 
   told_opened : IsSetTold s → IsSetTold (set_parts held)
   told_opened told = record {
@@ -178,19 +197,6 @@ same_group slots note V slot kind master shadow bitmap faults blocks live_b memo
 
 -- ---- a group that is taken apart
 
--- a set that is found again where it is enabled
-pub record IsFindable (slots : List Slot) (s : HeldSet) : Type 0 where
-  pub label : is_live slots s.slot ≡ true → HasLabel s.chunks
-  pub none_back : is_live slots s.slot ≡ true → HasNoneBack s.chunks
-
-pub findable : (slots : List Slot) (V : List Seen) (sets : List HeldSet) → length sets ≤ 1 → AreSound slots V sets → All (IsFindable slots) sets
-findable slots V [] one sound = all_none (IsFindable slots)
-findable slots V (h ∷ []) one sound = all_of (IsFindable slots) h (record { label = λ l. (own l).label; none_back = λ l. (own l).none_back })
-  where
-    own : is_live slots h.slot ≡ true → IsSoundSet slots h
-    own l = of_all (IsSoundSet slots) h (subst (λ (b : Bool). All (IsSoundSet slots) (cond b (h ∷ []) [])) l sound.each)
-findable slots V (h ∷ k ∷ l) one sound = absurd (omega (arith, one))
-
 module _ (slots : List Slot) (note : List ℕ) (V : List Seen) (h : HeldSet) (own : IsHeld slots V h) where
   pub meaning_set : (slots' : List Slot) → group_by slots' note V (held_on V (set_parts h) ∷ []) ≡ group_by slots' note V (h ∷ [])
   meaning_set slots' =
@@ -198,31 +204,13 @@ module _ (slots : List Slot) (note : List ℕ) (V : List Seen) (h : HeldSet) (ow
       ∙ sym (same_group slots' note V h.slot h.chunks.kind h.master h.chunks.shadow h.chunks.areas.disk h.chunks.areas.disk.faults h.chunks.blocks h.chunks.areas.live_b h.chunks.memory)
       ∙ ap (λ (a : Areas). group_by slots' note V (record { slot = h.slot; master = h.master; chunks = record { kind = h.chunks.kind; shadow = h.chunks.shadow; areas = a; memory = h.chunks.memory; blocks = h.chunks.blocks } } ∷ [])) (sym own.on.areas)
 
-  online_fits : is_live slots h.slot ≡ true → FitsSlot (slot_in slots h.slot) h.chunks.kind
-  online_fits l = record { number = own.number l; online = by_flags.0; here = by_flags.1 }
-    where
-      flags : (e o : Bool) (stamp need n : ℕ) → cond e (Exported stamp) (cond o (Offline need n) Online) ≡ Online → (o ≡ false) × (e ≡ false)
-      flags true o stamp need n is = absurd (false≢true (sym (ap is_exported is)))
-        where
-          is_exported : Standing → Bool
-          is_exported (Exported k) = true
-          is_exported other = false
-      flags false true stamp need n is = absurd (false≢true (sym (ap is_offline is)))
-        where
-          is_offline : Standing → Bool
-          is_offline (Offline a b) = true
-          is_offline other = false
-      flags false false stamp need n is = (refl, refl)
-
-      by_flags : (has_flag offline (slot_in slots h.slot) ≡ false) × (has_flag exported (slot_in slots h.slot) ≡ false)
-      by_flags = flags (has_flag exported (slot_in slots h.slot)) (has_flag offline (slot_in slots h.slot)) (slot_in slots h.slot).stamp (slot_in slots h.slot).need (slot_in slots h.slot).slots (own.online l)
-
   there_is : (q : Option Seen) → IsTrue (is_some q) → q ≡ Some (disk_of q)
   there_is None t = cc
   there_is (Some d) t = refl
 
-  placed_set : IsPlaced slots V (set_parts h)
-  placed_set =
+  -- the set in a group with other slots
+  pub placed_by : (slots' : List Slot) → (is_live slots' h.slot ≡ true → fits_slot (slot_in slots' h.slot) h.chunks.kind ≡ true) → IsPlaced slots' V (set_parts h)
+  placed_by slots' fits =
       let there = there_is h.chunks.shadow own.there in
       record {
         slot = own.slot;
@@ -233,20 +221,37 @@ module _ (slots : List Slot) (note : List ℕ) (V : List Seen) (h : HeldSet) (ow
         some = omega (arith, own.some, own.blocks);
         whole = own.whole;
         plain = refl;
-        fits = online_fits;
+        fits = fits;
       }
 
-  labelled_set : IsFindable slots h → IsLabelled slots V (set_parts h)
-  labelled_set found = record { label = λ l. subst (λ (n : ℕ). IsLabel (block_at h.chunks.areas.disk.image 0) (shadow_label n)) (sym own.blocks) (found.label l).label }
+  pub labelled_by : (slots' : List Slot) → (is_live slots' h.slot ≡ true → HasLabel h.chunks) → IsLabelled slots' V (set_parts h)
+  labelled_by slots' label = record { label = λ l. subst (λ (n : ℕ). IsLabel (block_at h.chunks.areas.disk.image 0) (shadow_label n)) (sym own.blocks) (label l).label }
 
-  settled_set : IsFindable slots h → IsSetSettled slots V (set_parts h)
-  settled_set found = record { none_back = λ l. record { none = λ c lt is. (found.none_back l).none c (subst (λ (n : ℕ). c < seg_count n) own.blocks lt) (same l c ∙ is) } }
-    where
-      same : is_live slots h.slot ≡ true → (c : ℕ) → disk_state h.chunks c ≡ state_on (live (areas_on h.chunks.areas.disk (size_of V h.master) (has_flag area_b (slot_in slots h.slot)))) c
-      same l c =
-          ap (λ (a : Areas). state_on (live a) c) own.on.areas
-          ∙ ap (λ (b : Bool). state_on (live (areas_on h.chunks.areas.disk h.chunks.blocks b)) c) (own.area l)
-          ∙ ap (λ (n : ℕ). state_on (live (areas_on h.chunks.areas.disk n (has_flag area_b (slot_in slots h.slot)))) c) (sym own.blocks)
+  pub by_labelled : (slots' : List Slot) → IsLabelled slots' V (set_parts h) → is_live slots' h.slot ≡ true → HasLabel h.chunks
+  by_labelled slots' labelled l = record { label = subst (λ (n : ℕ). IsLabel (block_at h.chunks.areas.disk.image 0) (shadow_label n)) own.blocks (labelled.label l) }
+
+  states_on : (b : Bool) (c : ℕ) → state_on (live (areas_on h.chunks.areas.disk (size_of V h.master) b)) c ≡ disk_state (with_area h.chunks b) c
+  states_on b c =
+      ap (λ (n : ℕ). state_on (live (areas_on h.chunks.areas.disk n b)) c) own.blocks
+      ∙ sym (ap (λ (a : Areas). state_on (live (record a { live_b = b })) c) own.on.areas)
+
+  pub settled_by : (slots' : List Slot) → (is_live slots' h.slot ≡ true → HasNoneBack (with_area h.chunks (has_flag area_b (slot_in slots' h.slot)))) → IsSetSettled slots' V (set_parts h)
+  settled_by slots' back = record { none_back = λ l. record { none = λ c lt is. (back l).none c (subst (λ (n : ℕ). c < seg_count n) own.blocks lt) (sym (states_on (has_flag area_b (slot_in slots' h.slot)) c) ∙ is) } }
+
+  pub by_settled : (slots' : List Slot) → IsSetSettled slots' V (set_parts h) → is_live slots' h.slot ≡ true → HasNoneBack (with_area h.chunks (has_flag area_b (slot_in slots' h.slot)))
+  by_settled slots' settled l = record { none = λ c lt is. (settled.none_back l).none c (subst (λ (n : ℕ). c < seg_count n) (sym own.blocks) lt) (states_on (has_flag area_b (slot_in slots' h.slot)) c ∙ is) }
+
+  settled_set : (is_live slots h.slot ≡ true → IsFindable h) → IsSetSettled slots V (set_parts h)
+  settled_set found = settled_by slots (λ l. subst (λ (b : Bool). HasNoneBack (with_area h.chunks b)) (own.area l) (found l).none_back)
+
+  made_set : StaysMade V h
+  made_set = record {
+    made = λ fresh. record {
+      told = record { shadow = fresh.known.shadow; bitmap = fresh.known.bitmap };
+      label = subst (λ (n : ℕ). IsLabel (block_at h.chunks.areas.disk.image 0) (shadow_label n)) (sym own.blocks) fresh.label.label;
+      states = λ c lt. states_on false c ∙ ap (λ (b : Bool). disk_state (with_area h.chunks b) c) (sym fresh.area) ∙ fresh.states c (subst (λ (n : ℕ). c < seg_count n) own.blocks lt);
+    };
+  }
 
 module _ (state : Seen) (block : GroupBlock) (V : List Seen) where
   pub meaning_parts : (sets : List HeldSet) → length sets ≤ 1 → IsKept state block V sets → meaning_of_parts (parts_of (the_group state block V sets)) ≡ meaning (the_group state block V sets)
@@ -259,6 +264,11 @@ module _ (state : Seen) (block : GroupBlock) (V : List Seen) where
   shape_parts (h ∷ []) one kept = ap (λ (n : ℕ). record { state = disk_shape state; volumes = map disk_shape V; sets = record (set_shape h) { blocks = n } ∷ [] }) (of_all (IsHeld block.slots V) h kept.held).blocks
   shape_parts (h ∷ k ∷ l) one kept = absurd (omega (arith, one))
 
+  pub made_sets : (sets : List HeldSet) → length sets ≤ 1 → IsKept state block V sets → All (StaysMade V) sets
+  made_sets [] one kept = all_none (StaysMade V)
+  made_sets (h ∷ []) one kept = all_of (StaysMade V) h (made_set block.slots block.note V h (of_all (IsHeld block.slots V) h kept.held))
+  made_sets (h ∷ k ∷ l) one kept = absurd (omega (arith, one))
+
   pub disks_parts : (sets : List HeldSet) → length sets ≤ 1 → disks_in (parts_of (the_group state block V sets)) ≡ disks_of (the_group state block V sets)
   disks_parts [] one = ap (λ (l : List Seen). state ∷ l) (append-nil (V ++ []))
   disks_parts (h ∷ []) one = go h.chunks.shadow
@@ -268,16 +278,19 @@ module _ (state : Seen) (block : GroupBlock) (V : List Seen) where
       go (Some d) = ap (λ (l : List Seen). state ∷ l) (append-nil (V ++ (d ∷ h.chunks.areas.disk ∷ [])))
   disks_parts (h ∷ k ∷ l) one = absurd (omega (arith, one))
 
-  pub rest_parts : (sets : List HeldSet) → length sets ≤ 1 → IsNoteTold (below_of (the_group state block V sets)) → meaning (the_group state block V sets) ≡ record (group_of (rest_of (the_group state block V sets))) { note = (kept_on state).note }
-  rest_parts [] one told =
-      let is = (stored_some block.slots state told).slots_are in
-      ap (λ (s : List Slot). group_by s (kept_on state).note V []) is ∙ sym (group_quiet_none block.slots (kept_on state).note V)
-  rest_parts (h ∷ []) one told =
-      let is = (stored_some block.slots state told).slots_are in
-      ap (λ (s : List Slot). group_by s (kept_on state).note V (h ∷ [])) is ∙ sym (group_quiet block.slots (kept_on state).note V h)
-  rest_parts (h ∷ k ∷ l) one told = absurd (omega (arith, one))
+  stored : (sets : List HeldSet) → IsKept state block V sets → IsNoteTold (below_of (the_group state block V sets)) → Stored block.slots state
+  stored sets kept told = stored_some block.slots state (slots_keep block kept.keeps kept.fits) told
 
-  pub whole_parts : (sets : List HeldSet) → length sets ≤ 1 → IsKept state block V sets → HoldsBlock state block → All (IsFindable block.slots) sets → AreWhole (parts_of (the_group state block V sets))
+  pub rest_parts : (sets : List HeldSet) → length sets ≤ 1 → IsKept state block V sets → IsNoteTold (below_of (the_group state block V sets)) → meaning (the_group state block V sets) ≡ record (group_of (rest_of (the_group state block V sets))) { note = (kept_on state).note }
+  rest_parts [] one kept told =
+      let is = (stored [] kept told).slots_are in
+      ap (λ (s : List Slot). group_by s (kept_on state).note V []) is ∙ sym (group_quiet_none block.slots (kept_on state).note V)
+  rest_parts (h ∷ []) one kept told =
+      let is = (stored (h ∷ []) kept told).slots_are in
+      ap (λ (s : List Slot). group_by s (kept_on state).note V (h ∷ [])) is ∙ sym (group_quiet block.slots (kept_on state).note V h)
+  rest_parts (h ∷ k ∷ l) one kept told = absurd (omega (arith, one))
+
+  pub whole_parts : (sets : List HeldSet) → length sets ≤ 1 → IsKept state block V sets → HoldsBlock state block → All IsFindable (enabled_in block.slots sets) → AreWhole (parts_of (the_group state block V sets))
   whole_parts sets one kept holds found =
       let is = kept_is state block holds in
       let slots : (kept_on state).slots ≡ block.slots = ap (λ (b : GroupBlock). b.slots) is in
@@ -286,19 +299,38 @@ module _ (state : Seen) (block : GroupBlock) (V : List Seen) where
         label = holds.label;
         block = subst (λ (b : GroupBlock). IsGroupBlock (block_at state.image 1) b) (sym is) holds.holds;
         placed = record {
-          each = subst (λ (s : List Slot). All (IsPlaced s V) (map set_parts sets)) (sym slots) (each (IsPlaced block.slots V) (λ h own f. placed_set block.slots [] V h own) sets one kept.held found);
+          each = subst (λ (s : List Slot). All (IsPlaced s V) (map set_parts sets)) (sym slots) (each (IsPlaced block.slots V) (λ h own f. placed_by block.slots [] V h own block.slots own.fits) sets one kept.held found);
           one = omega (arith, one, length-map sets set_parts);
           count = kept.count;
           none = refl;
         };
-        labelled = subst (λ (s : List Slot). All (IsLabelled s V) (map set_parts sets)) (sym slots) (each (IsLabelled block.slots V) (λ h own f. labelled_set block.slots [] V h own f) sets one kept.held found);
+        labelled = subst (λ (s : List Slot). All (IsLabelled s V) (map set_parts sets)) (sym slots) (each (IsLabelled block.slots V) (λ h own f. labelled_by block.slots [] V h own block.slots (λ l. (f l).label)) sets one kept.held found);
         settled = subst (λ (s : List Slot). All (IsSetSettled s V) (map set_parts sets)) (sym slots) (each (IsSetSettled block.slots V) (λ h own f. settled_set block.slots [] V h own f) sets one kept.held found);
       }
     where
-      each : (P : SetDisks → Type 0) → ((h : HeldSet) → IsHeld block.slots V h → IsFindable block.slots h → P (set_parts h)) → (sets : List HeldSet) → length sets ≤ 1 → All (IsHeld block.slots V) sets → All (IsFindable block.slots) sets → All P (map set_parts sets)
+      each : (P : SetDisks → Type 0) → ((h : HeldSet) → IsHeld block.slots V h → (is_live block.slots h.slot ≡ true → IsFindable h) → P (set_parts h)) → (sets : List HeldSet) → length sets ≤ 1 → All (IsHeld block.slots V) sets → All IsFindable (enabled_in block.slots sets) → All P (map set_parts sets)
       each P p [] one held found = all_none P
-      each P p (h ∷ []) one held found = all_of P (set_parts h) (p h (of_all (IsHeld block.slots V) h held) (of_all (IsFindable block.slots) h found))
+      each P p (h ∷ []) one held found = all_of P (set_parts h) (p h (of_all (IsHeld block.slots V) h held) (one_findable block.slots h found))
       each P p (h ∷ k ∷ l) one held found = absurd (omega (arith, one))
+
+  -- a sound group is found on its parts
+  pub whole_sound : (sets : List HeldSet) → length sets ≤ 1 → IsKept state block V sets → IsSound (the_group state block V sets) → AreWhole (parts_of (the_group state block V sets))
+  whole_sound sets one kept sound = whole_parts sets one kept sound.holds (sound_findable block.slots (enabled_in block.slots sets) sound.disks.each)
+
+-- a group whose note and whose rest are found on its parts
+pub whole_rest : (state : Seen) (block : GroupBlock) (V : List Seen) (sets : List HeldSet) → length sets ≤ 1 → IsKept state block V sets → IsNoteTold (below_of (the_group state block V sets)) → AreFindable (rest_of (the_group state block V sets)) → AreWhole (parts_of (the_group state block V sets))
+whole_rest state block V sets one kept told found =
+    let s = stored state block V sets kept told in
+    let slots : block.slots ≡ (kept_on state).slots = sym s.slots_are in
+    whole_parts state (kept_on state) V sets one
+    (record { room = kept.room; keeps = s.holds.keeps; fits = s.holds.fits; count = kept.count; held = subst (λ (l : List Slot). All (IsHeld l V) sets) slots kept.held })
+    (record { told = s.told; label = s.label; holds = s.holds })
+    (subst (λ (l : List Slot). All IsFindable (enabled_in l sets)) slots (loud sets one found))
+  where
+    loud : (sets : List HeldSet) → length sets ≤ 1 → All IsFindable (enabled_in block.slots (map quiet_set sets)) → All IsFindable (enabled_in block.slots sets)
+    loud [] one found = found
+    loud (h ∷ []) one found = findable_one block.slots h (λ l. findable_quiet h (one_findable block.slots (quiet_set h) found l))
+    loud (h ∷ k ∷ l) one found = absurd (omega (arith, one))
 
 -- ---- a group that is found
 
@@ -383,6 +415,8 @@ module _ (state state' : Seen) (block : GroupBlock) (V : List Seen) (read : IsRe
     whole = λ told. whole_by [] told.state (all_none (IsPlaced block.slots V)) (omega arith) (all_none (IsLabelled block.slots V)) (all_none (IsSetSettled block.slots V));
     group = ap (λ (b : GroupBlock). group_by b.slots b.note V []) (kept_same state state' read.rest);
     block = λ told. sym (kept_is state block (read.holds told));
+    holds = λ told. holds_same state state' read.rest block (read.holds told);
+    pending = all_none (IsFoundPending V);
     sound = λ told. record { holds = holds_same state state' read.rest block (read.holds told.state); disks = record { told = told.volumes; each = all_none (IsSoundSet block.slots) } };
     told = λ told. record { state = told_same state state' read.rest told.state; volumes = told.volumes; sets = all_none IsSetTold };
     shape = λ i. record { state = disk_shape (read.rest i); volumes = map disk_shape V; sets = [] };
@@ -409,6 +443,8 @@ module _ (state state' : Seen) (block : GroupBlock) (V : List Seen) (read : IsRe
           (all_of (IsSetSettled block.slots V) s (settled_opened block.slots V s chunks placed o (of_all IsSetTold s told.sets).bitmap));
       group = ap (λ (b : GroupBlock). group_by b.slots b.note V (found ∷ [])) (kept_same state state' read.rest) ∙ same_found (kept_on state).slots (kept_on state).note;
       block = λ told. sym (kept_is state block (read.holds told));
+      holds = λ told. holds_same state state' read.rest block (read.holds told);
+      pending = pendings_opened block.slots V s chunks placed o;
       sound = λ told. record { holds = holds_same state state' read.rest block (read.holds told.state); disks = record { told = told.volumes; each = sounds_opened block.slots V s chunks placed o (of_all IsSetTold s told.sets) } };
       told = λ told. record { state = told_same state state' read.rest told.state; volumes = told.volumes; sets = all_of IsSetTold (set_parts found) (told_opened block.slots V s chunks placed o (of_all IsSetTold s told.sets)) };
       shape = λ i. record { state = disk_shape (read.rest i); volumes = map disk_shape V; sets = shape_opened block.slots V s chunks placed o i ∷ [] };
@@ -480,16 +516,16 @@ module _ (state state' : Seen) (V : List Seen) (S : List SetDisks) (O : List See
     where
       cause_of : (why : Why) → StateRefused state why state' → WhyNotFound (the_disks state V S O) why (the_disks state' V S O)
       cause_of (Size need have) w = absurd w
-      cause_of (BadRecord field) (inl w) = λ told. (inl (record { number = w.1; broken = inl w.0 }), λ whole. omega (arith, w.0, whole.state))
-      cause_of (BadRecord field) (inr w) = λ told. (inr (inl (w.1 told.state).0), λ whole. (w.1 told.state).1 (record { block = kept_on state; label = whole.label; holds = whole.block }))
+      cause_of (BadRecord field) (inl w) = λ told. (inl w, λ whole. omega (arith, w.less, whole.state))
+      cause_of (BadRecord field) (inr w) = λ told. (inr (inl (record { room = w.0; bad = (w.1 told.state).0 })), λ whole. (w.1 told.state).1 (record { block = kept_on state; label = whole.label; holds = whole.block }))
       cause_of NoMemory w = absurd w
       cause_of Fault w = (rose_here _ _ _ _ w.0, and_false_left _ _ w.1)
 
-  pub odd_refused : (AreFew (length V) (length S) (length O) → ⊥) → LoadRefused (record { state = state; volumes = V; sets = S; overs = O }) (BadRecord between) (record { state = state'; volumes = V; sets = S; overs = O })
-  odd_refused not_few = record {
+  pub odd_refused : (IsTold state → IsStateDisk state) → (AreFew (length V) (length S) (length O) → ⊥) → LoadRefused (record { state = state; volumes = V; sets = S; overs = O }) (BadRecord between) (record { state = state'; volumes = V; sets = S; overs = O })
+  odd_refused good not_few = record {
     parts = same_parts;
     later = fell_cons state.faults state'.faults _ _ later (fell_same _);
-    cause = λ told. (inl (record { number = refl; broken = inr (inl (λ p. not_few (few p))) }), λ whole. not_few (few whole.placed));
+    cause = λ told. (inr (inr (inl (record { state = good told.state; broken = λ p. not_few (few p); number = refl }))), λ whole. not_few (few whole.placed));
     told = told_parts;
     whole = whole_refused;
     group = group_refused;
@@ -521,28 +557,44 @@ module _ (V : List Seen) (slot : ℕ) (kind : Kind) (master : ℕ) (over : Optio
   unsteady None e = and_false_right state.steady _ (ap (λ (m : List Seen). list_all (λ (d : Seen). d.steady) m) (append-nil (V ++ (bitmap ∷ []))) ∙ list_all-append (λ (d : Seen). d.steady) V (bitmap ∷ []) ∙ and_false_right (list_all (λ (d : Seen). d.steady) V) _ (and_false_left bitmap.steady _ e))
   unsteady (Some d) e = and_false_right state.steady _ (ap (λ (m : List Seen). list_all (λ (d : Seen). d.steady) m) (append-nil (V ++ (d ∷ bitmap ∷ []))) ∙ list_all-append (λ (d : Seen). d.steady) V (d ∷ bitmap ∷ []) ∙ and_false_right (list_all (λ (d : Seen). d.steady) V) _ (and_false_right d.steady _ (and_false_left bitmap.steady _ e)))
 
-module _ (state state' : Seen) (block : GroupBlock) (V : List Seen) (read : IsRead state block state') (s : SetDisks) where
+-- the state disk that was read is one
+pub disk_read : (state state' : Seen) (block : GroupBlock) → IsRead state block state' → IsTold state → IsStateDisk state
+disk_read state state' block read told = let h = read.holds told in record { room = read.room; good = record { block = block; label = h.label; holds = h.holds } }
+
+module _ (state state' : Seen) (block : GroupBlock) (V : List Seen) (read : IsRead state block state') (count : length V < 2 ^ 32) (s : SetDisks) where
+  -- the set's bitmap is refused, so the parts are not whole
+  not_whole : (slots : List Slot) (field : ℕ) → IsBadSet slots V field s → IsLabelled slots V s → IsSetSettled slots V s → ⊥
+  not_whole slots field bad labelled settled = go bad.bitmap
+    where
+      go : IsBadBitmap s.bitmap (size_of V s.master) (has_flag area_b (slot_in slots s.slot)) field → ⊥
+      go (inl other) = other.other (labelled.label bad.live)
+      go (inr back) = back.broken (settled.none_back bad.live)
+
   cause_set : (why : Why) (b : Seen) → WhyNotOpened block.slots V s why b → WhyNotFound (the_parts state V (s ∷ [])) why (the_parts state' V (record s { bitmap = b } ∷ []))
   cause_set (Size need have) b w = absurd w
   cause_set (BadRecord field) b (inl w) = λ told.
       let slots = slots_of told in
       let odd : All (IsPlaced (kept_on state).slots V) (s ∷ []) → ⊥ = λ p. w.1 (of_all (IsPlaced block.slots V) s (subst (λ (x : List Slot). All (IsPlaced x V) (s ∷ [])) slots p)) in
-      (inl (record { number = w.0; broken = inr (inl (λ p. odd p.each)) }), λ whole. odd whole.placed.each)
+      (inr (inr (inl (record { state = disk_read state state' block read told.state; broken = λ p. odd p.each; number = w.0 }))), λ whole. odd whole.placed.each)
     where
       slots_of : AreTold (the_parts state V (s ∷ [])) → (kept_on state).slots ≡ block.slots
       slots_of told = ap (λ (b : GroupBlock). b.slots) (kept_is state block (read.holds told.state))
-  cause_set (BadRecord field) b (inr (inl w)) = λ told.
-      let slots = slots_of told in
-      let label = w.1 (of_all IsSetTold s told.sets).bitmap in
-      let live' : is_live (kept_on state).slots s.slot ≡ true = ap (λ (x : List Slot). is_live x s.slot) slots ∙ w.0 in
-      (inr (inr (0, s, omega arith, refl, record { live = live'; label = label.0 })), λ whole. label.1 ((of_all (IsLabelled (kept_on state).slots V) s whole.labelled).label live'))
-    where
-      slots_of : AreTold (the_parts state V (s ∷ [])) → (kept_on state).slots ≡ block.slots
-      slots_of told = ap (λ (b : GroupBlock). b.slots) (kept_is state block (read.holds told.state))
-  cause_set (BadRecord field) b (inr (inr w)) = λ told.
-      let slots = slots_of told in
-      let odd : All (IsSetSettled (kept_on state).slots V) (s ∷ []) → ⊥ = λ p. w.1 (of_all IsSetTold s told.sets).bitmap (of_all (IsSetSettled block.slots V) s (subst (λ (x : List Slot). All (IsSetSettled x V) (s ∷ [])) slots p)) in
-      (inl (record { number = w.0; broken = inr (inr odd) }), λ whole. odd whole.settled)
+  cause_set (BadRecord field) b (inr w) = λ told.
+      let slots : block.slots ≡ (kept_on state).slots = sym (slots_of told) in
+      let placed : ArePlaced block.slots (the_parts state V (s ∷ [])) = record { each = all_of (IsPlaced block.slots V) s w.0; one = omega arith; count = count; none = refl } in
+      let bad : IsBadSet (kept_on state).slots V field s = subst (λ (x : List Slot). IsBadSet x V field s) slots (w.1 (of_all IsSetTold s told.sets).bitmap) in (
+        inr (inr (inr (record {
+          state = disk_read state state' block read told.state;
+          placed = subst (λ (x : List Slot). ArePlaced x (the_parts state V (s ∷ []))) slots placed;
+          before = [];
+          set = s;
+          behind = [];
+          order = refl;
+          good = all_none (IsGoodSet (kept_on state).slots V);
+          bad = bad;
+        }))),
+        λ whole. not_whole (kept_on state).slots field bad (of_all (IsLabelled (kept_on state).slots V) s whole.labelled) (of_all (IsSetSettled (kept_on state).slots V) s whole.settled),
+      )
     where
       slots_of : AreTold (the_parts state V (s ∷ [])) → (kept_on state).slots ≡ block.slots
       slots_of told = ap (λ (b : GroupBlock). b.slots) (kept_is state block (read.holds told.state))
@@ -613,10 +665,10 @@ module _ (state state' : Seen) (block : GroupBlock) (V : List Seen) (read : IsRe
       subst (λ (l : List SetDisks). LoadRefused (the_parts state V l) why (the_parts state' V S')) (sym is)
       (subst (λ (l : List SetDisks). LoadRefused (the_parts state V (s ∷ [])) why (the_parts state' V l)) (sym r.1.0) (set_refused why r.0 r.1.1))
 
-pub take_refused : (state state' : Seen) (block : GroupBlock) (V : List Seen) (read : IsRead state block state') (S S' : List SetDisks) (why : Why) → length S ≤ 1 → RefusesOne block.slots V S why S' → LoadRefused (the_parts state V S) why (the_parts state' V S')
-take_refused state state' block V read [] S' why one w = absurd w
-take_refused state state' block V read (s ∷ []) S' why one w = one_refused state state' block V read s (s ∷ []) S' why one refl w
-take_refused state state' block V read (s ∷ r ∷ l) S' why one w = absurd (omega (arith, one))
+pub take_refused : (state state' : Seen) (block : GroupBlock) (V : List Seen) (read : IsRead state block state') → length V < 2 ^ 32 → (S S' : List SetDisks) (why : Why) → length S ≤ 1 → RefusesOne block.slots V S why S' → LoadRefused (the_parts state V S) why (the_parts state' V S')
+take_refused state state' block V read count [] S' why one w = absurd w
+take_refused state state' block V read count (s ∷ []) S' why one w = one_refused state state' block V read count s (s ∷ []) S' why one refl w
+take_refused state state' block V read count (s ∷ r ∷ l) S' why one w = absurd (omega (arith, one))
 
 -- ---- what a call has of parts
 

@@ -99,10 +99,10 @@ empty_fits = record {
     note_at i (inl lt) = omega (arith, get_or-replicate 64 i z z lt)
     note_at i (inr past) = omega (arith, get_or_past (replicate 64 z) i z (omega (arith, past, length-replicate 64 z)))
 
-label_keeps : LabelKeeps state_label
+pub label_keeps : LabelKeeps state_label
 label_keeps = record { version = refl; kind_some = omega arith; kind = omega arith; stamp = omega arith; stamp_none = λ _. refl }
 
-label_fits : LabelFits state_label
+pub label_fits : LabelFits state_label
 label_fits = record { blocks = omega arith; segments = omega arith }
 
 module _ (old new : Seen) (room : 64 ≤ old.size) (f : Formats {T = Unit {0}} {E = Failed} old empty_block (Ok tt) new) where

@@ -3,28 +3,32 @@ use Rattle.std.proofs.Common.{◌≡◌, ◌⊎◌, inl, inr, ℕ, zero, suc, �
 use Rattle.std.specs.List.{range_with_len, list_all, position, position_or_len, position_from}
 use Rattle.std.proofs.lemmas.List.Quantifiers.{position-Some}
 use Rattle.avs_code.specs.Slot.{no_slot}
+use Rattle.avs_code.specs.Label.{IsLabel}
 use Rattle.std.proofs.lemmas.Iterator.Adapters.{position_from-zero}
-use Rattle.std.proofs.lemmas.Bool.{false≢true, cases_lt, eqb-true, eq-eqb, ne_eqb}
+use Rattle.std.proofs.lemmas.Bool.{false≢true, cases_lt, eq-eqb, ne_eqb}
 use Rattle.std.proofs.lemmas.Bool.Decides.{nat_tests}
 use Rattle.std.proofs.lemmas.List.{get_or-map, length-map}
+use Rattle.avs_seg.specs.Image.{block_at}
 use Rattle.avs_seg.specs.Segment.{seg_count}
 use Rattle.avs_dev.specs.Seen.{Seen, IsTold}
 use Rattle.avs_dev.specs.declared.back.Why.{Why}
 use Rattle.avs_dev.specs.declared.back.Why.TheVariants.{Size, BadRecord, NoMemory, Fault}
 use Rattle.avs_flip.specs.Areas.{live}
 use Rattle.avs_code.specs.declared.slot_table.Slot.{Slot}
+use Rattle.avs_model.specs.Shadows.{Online, Offline, Exported}
 use Rattle.avs_model.specs.declared.shadow.Kind.{Kind}
 use Rattle.avs_model.specs.declared.shadow.Kind.TheVariants.{Ind, Dep, Compact}
 use Rattle.avs_chunk.specs.States.{on_master, on_shadow, state_on}
-use Rattle.avs_chunk.specs.ChunkSet.{ChunkSet, disk_of, state_of, disk_state, chunks_of}
+use Rattle.avs_chunk.specs.ChunkSet.{ChunkSet, disk_of, state_of, disk_state, chunks_of, shadow_label}
 use Rattle.avs_chunk.specs.Making.{Fits, IsSmall, Loads, LoadRefused, areas_on}
 use Rattle.avs_chunk.specs.Finding.{Finds, FindRefused, back_of}
 use Rattle.avs_ii.specs.Held.{slot_in, is_live, has_flag, live as live_flag, area_b, offline, exported}
+use Rattle.avs_ii.specs.Meaning.{standing_of}
 use Rattle.avs_ii.specs.SetDisks.{SetDisks}
 use Rattle.avs_ii.specs.Parts.{size_of}
 use Rattle.avs_ii.specs.Saved.{IsSettledInMemory}
-use Rattle.avs_ii.specs.Making.{FitsSlot, IsPlaced, IsSettledOn, kind_number, between}
-use Rattle.avs_ii.specs.Opening.{fits_slot, is_whole, is_placed, between_parts, live_area, OpensChunks, ChunksRefused, OpensSet, WhyNotOpened, SetRefused}
+use Rattle.avs_ii.specs.Making.{IsPlaced, IsSettledOn, fits_slot, kind_number, between}
+use Rattle.avs_ii.specs.Opening.{is_whole, is_placed, between_parts, live_area, OpensChunks, ChunksRefused, OpensSet, WhyNotOpened, SetRefused}
 
 -- ---- tests
 
@@ -70,14 +74,13 @@ is_none o e = ap (λ p. not (is_some p)) e
 
 -- ---- how a set is placed
 
-pub fits_is : (slot : Slot) (kind : Kind) → fits_slot slot kind ≡ true → FitsSlot slot kind
-fits_is slot kind t =
+-- a slot that fits is neither exported nor offline
+pub fits_online : (slot : Slot) (kind : Kind) → fits_slot slot kind ≡ true → standing_of slot ≡ Online
+fits_online slot kind t =
     let a = and_true (eqb slot.kind (kind_number kind)) (not (has_flag offline slot) && not (has_flag exported slot)) t in
     let b = and_true (not (has_flag offline slot)) (not (has_flag exported slot)) a.1 in
-    record { number = eqb-true slot.kind (kind_number kind) a.0; online = not_true (has_flag offline slot) b.0; here = not_true (has_flag exported slot) b.1 }
-
-fits_if : (slot : Slot) (kind : Kind) → FitsSlot slot kind → fits_slot slot kind ≡ true
-fits_if slot kind f = and_is (eqb slot.kind (kind_number kind)) (not (has_flag offline slot) && not (has_flag exported slot)) (eq-eqb slot.kind (kind_number kind) f.number) (and_is (not (has_flag offline slot)) (not (has_flag exported slot)) (not_is (has_flag offline slot) f.online) (not_is (has_flag exported slot) f.here))
+    ap (λ (e : Bool). cond e (Exported slot.stamp) (cond (has_flag offline slot) (Offline slot.need slot.slots) Online)) (not_true (has_flag exported slot) b.1)
+    ∙ ap (λ (o : Bool). cond o (Offline slot.need slot.slots) Online) (not_true (has_flag offline slot) b.0)
 
 whole_is : (kind : Kind) → is_whole kind ≡ true → (kind ≡ Ind) ⊎ (kind ≡ Dep)
 whole_is Ind t = inl refl
@@ -116,7 +119,7 @@ module _ (slots : List Slot) (volumes : List Seen) (s : SetDisks) where
     some = some;
     whole = whole_is s.kind (tests t).2;
     plain = none_is s.over (tests t).3;
-    fits = λ l. fits_is (slot_in slots s.slot) s.kind (or_then (is_live slots s.slot) (fits_slot (slot_in slots s.slot) s.kind) (tests t).4 l);
+    fits = λ l. or_then (is_live slots s.slot) (fits_slot (slot_in slots s.slot) s.kind) (tests t).4 l;
   }
 
   pub placed_if : IsPlaced slots volumes s → is_placed slots (length volumes) s ≡ true
@@ -125,13 +128,13 @@ module _ (slots : List Slot) (volumes : List Seen) (s : SetDisks) where
       (and_is (nat_lt s.master (length volumes)) _ (lt_is s.master (length volumes) p.master)
       (and_is (is_whole s.kind) _ (whole_if s.kind p.whole)
       (and_is (not (is_some s.over)) fits_test (is_none s.over p.plain)
-      (or_is (is_live slots s.slot) (fits_slot (slot_in slots s.slot) s.kind) (λ l. fits_if (slot_in slots s.slot) s.kind (p.fits l))))))
+      (or_is (is_live slots s.slot) (fits_slot (slot_in slots s.slot) s.kind) p.fits))))
 
-  pub not_placed : is_placed slots (length volumes) s ≡ false → SetRefused slots volumes s (BadRecord between) s
-  not_placed t = record { is = refl; later = omega arith; cause = inl (refl, λ p. false≢true (sym t ∙ placed_if p)) }
+  pub not_placed : is_placed slots (length volumes) s ≡ false → IsPlaced slots volumes s → ⊥
+  not_placed t p = false≢true (sym t ∙ placed_if p)
 
-  pub no_block : size_of volumes s.master ≡ zero → SetRefused slots volumes s (BadRecord between) s
-  no_block t = record { is = refl; later = omega arith; cause = inl (refl, λ p. omega (arith, p.some, t)) }
+  pub no_block : size_of volumes s.master ≡ zero → IsPlaced slots volumes s → ⊥
+  no_block t p = omega (arith, p.some, t)
 
   pub opens_set : (chunks : ChunkSet) → is_placed slots (length volumes) s ≡ true → 0 < size_of volumes s.master → OpensChunks slots s.slot s.kind s.shadow s.bitmap (size_of volumes s.master) chunks → OpensSet slots volumes s (record { slot = s.slot; master = s.master; chunks = chunks })
   opens_set chunks t some o = record { placed = placed_is t o.there o.fits some; slot = refl; master = refl; chunks = o }
@@ -143,23 +146,22 @@ module _ (slots : List Slot) (volumes : List Seen) (s : SetDisks) where
       omega (arith, p.shadow, size, w.needs, w.has, w.less)
   small_odd need have (inr w) p = omega (arith, p.bitmap, w.needs, w.has, w.less)
 
-  why_set : (why : Why) (new : Seen) → ChunksRefused slots s.slot s.shadow s.bitmap (size_of volumes s.master) why new → WhyNotOpened slots volumes s (between_parts why) new
-  why_set (Size need have) new w = inl (refl, λ p. small_odd need have w p)
-  why_set (BadRecord field) new (inl w) = inl (w.0, λ p. nothing (sym w.1 ∙ p.there))
+  why_set : is_placed slots (length volumes) s ≡ true → 0 < size_of volumes s.master → (why : Why) (new : Seen) → ChunksRefused slots s.slot s.shadow s.bitmap (size_of volumes s.master) why new → WhyNotOpened slots volumes s (between_parts why) new
+  why_set t some (Size need have) new w = inl (refl, λ p. small_odd need have w p)
+  why_set t some (BadRecord field) new (inl w) = inl (w.0, λ p. nothing (sym w.1 ∙ p.there))
     where
       nothing : {X : Type 0} {x : X} → None ≡ Some x → ⊥
       nothing e = absurd (false≢true (ap is_some e))
-  why_set (BadRecord field) new (inr (inl w)) = inr (inl (w.0, w.1.1))
-  why_set (BadRecord field) new (inr (inr w)) = inr (inr (w.0, λ told settled. w.1.1 told (settled.none_back w.1.0)))
-  why_set NoMemory new w = tt
-  why_set Fault new w = w
+  why_set t some (BadRecord field) new (inr w) = inr (placed_is t w.there w.fits some, λ told. record { live = w.live; bitmap = w.bad told })
+  why_set t some NoMemory new w = tt
+  why_set t some Fault new w = w
 
-  pub refused_set : (why : Why) (shadow' : Option Seen) (new : Seen) → ChunksRefused slots s.slot s.shadow s.bitmap (size_of volumes s.master) why new → shadow' ≡ s.shadow → new ≡ record s.bitmap { faults = new.faults } → s.bitmap.faults ≤ new.faults
+  pub refused_set : is_placed slots (length volumes) s ≡ true → 0 < size_of volumes s.master → (why : Why) (shadow' : Option Seen) (new : Seen) → ChunksRefused slots s.slot s.shadow s.bitmap (size_of volumes s.master) why new → shadow' ≡ s.shadow → new ≡ record s.bitmap { faults = new.faults } → s.bitmap.faults ≤ new.faults
       → SetRefused slots volumes s (between_parts why) (record s { shadow = shadow'; bitmap = new })
-  refused_set why shadow' new w back is later = record {
+  refused_set t some why shadow' new w back is later = record {
     is = ap (λ (o : Option Seen). record s { shadow = o; bitmap = new }) back ∙ ap (λ (d : Seen). record s { bitmap = d }) is;
     later = later;
-    cause = why_set why new w;
+    cause = why_set t some why new w;
   }
 
 -- ---- the chunks of a set
@@ -181,6 +183,7 @@ module _ (slots : List Slot) (slot : ℕ) (kind : Kind) (d bitmap : Seen) (block
     label = λ _ told. o.label told;
     step = λ _ told. o.step told;
     settled = settled;
+    pending = λ not_live c lt. absurd (false≢true (sym not_live ∙ l));
   }
 
   pub opens_found : is_live slots slot ≡ false → Finds kind d bitmap blocks new → OpensChunks slots slot kind (Some d) bitmap blocks new
@@ -196,6 +199,7 @@ module _ (slots : List Slot) (slot : ℕ) (kind : Kind) (d bitmap : Seen) (block
         label = λ live told. absurd (false≢true (sym l ∙ live));
         step = λ live told. absurd (false≢true (sym l ∙ live));
         settled = record { none = λ c lt e. never c (sym (f.states c lt) ∙ e) };
+        pending = λ _. f.states;
       }
     where
       never : (c : ℕ) → on_master ≡ on_shadow → ⊥
@@ -215,12 +219,18 @@ module _ (slots : List Slot) (slot : ℕ) (kind : Kind) (d bitmap : Seen) (block
           ∙ ap (λ (b : Bool). state_on (live (areas_on new.areas.disk blocks b)) c) e
           ∙ ap (λ (x : Seen). state_on (live (areas_on x blocks (has_flag area_b (slot_in slots slot)))) c) o.disk
 
+  labelled_by : (live_b : Bool) → Loads kind (Some d) bitmap blocks live_b new → IsTold bitmap → IsLabel (block_at bitmap.image 0) (shadow_label blocks)
+  labelled_by live_b o told =
+      subst (λ (n : ℕ). IsLabel (block_at bitmap.image 0) (shadow_label n)) o.blocks_is
+      (subst (λ (x : Seen). IsLabel (block_at x.image 0) (shadow_label new.blocks)) o.disk (o.label told).label)
+
   pub refused_settled : (live_b : Bool) (why : Why) (now : Seen) → is_live slots slot ≡ true → live_b ≡ has_flag area_b (slot_in slots slot) → Loads kind (Some d) bitmap blocks live_b new → (why ≡ BadRecord between) × (IsSettledInMemory new → ⊥) → ChunksRefused slots slot (Some d) bitmap blocks why now
-  refused_settled live_b why now l e o w = subst (λ (y : Why). ChunksRefused slots slot (Some d) bitmap blocks y now) (sym w.0) (inr (inr (refl, (l, λ told on. w.1 (settled_by live_b e o told on)))))
+  refused_settled live_b why now l e o w = subst (λ (y : Why). ChunksRefused slots slot (Some d) bitmap blocks y now) (sym w.0)
+      (inr (record { live = l; there = refl; fits = o.fits; bad = λ told. inr (record { label = labelled_by live_b o told; broken = λ on. w.1 (settled_by live_b e o told on); number = refl }) }))
 
 pub refused_load : (slots : List Slot) (slot : ℕ) (d bitmap : Seen) (blocks : ℕ) (why : Why) (now : Seen) → is_live slots slot ≡ true → LoadRefused (Some d) bitmap blocks why now → ChunksRefused slots slot (Some d) bitmap blocks why now
 refused_load slots slot d bitmap blocks (Size need have) now l w = w
-refused_load slots slot d bitmap blocks (BadRecord field) now l w = inr (inl (l, (w.0, λ told. ((w.1 told).bad, (w.1 told).other))))
+refused_load slots slot d bitmap blocks (BadRecord field) now l w = inr (record { live = l; there = refl; fits = w.0; bad = λ told. inl (w.1 told) })
 refused_load slots slot d bitmap blocks NoMemory now l w = tt
 refused_load slots slot d bitmap blocks Fault now l w = w.1
 

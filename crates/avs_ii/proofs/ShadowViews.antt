@@ -12,9 +12,9 @@ use Rattle.avs_ii.specs.Kept.{IsHeld, IsKept}
 use Rattle.avs_ii.specs.Calls.{IsShadowRange, WritesSet, ReadsSet, faulted}
 use Rattle.avs_ii.specs.Sound.{IsSound}
 use Rattle.avs_ii.specs.Parts.{parts_of}
-use Rattle.avs_ii.specs.Making.{AreTold, AreWhole}
+use Rattle.avs_ii.specs.Making.{AreWhole}
 use Rattle.avs_ii.proofs.Making.{at_most_one}
-use Rattle.avs_ii.proofs.Loading.{whole_parts, findable}
+use Rattle.avs_ii.proofs.Loading.{whole_sound}
 use Rattle.avs_ii.proofs.Belows.{as_group}
 use Rattle.avs_ii.proofs.Views.{disk_as, set_as, kept_some, held_some}
 use Rattle.avs_ii.proofs.Shadows.{set_found, set_missing, size_m, writes_set, settled_after, shadow_kept, reads_set, read_set_kept}
@@ -24,11 +24,10 @@ pub none_set : {D : Type 0} (state : Seen) (block : GroupBlock) (V : List Seen) 
 none_set {D = D} state block V o g slot view is =
     ap (λ (x : IiDisks). set_at x slot) (sym view) ∙ ap (λ (x : Option (Held D)). set_at (as_group state block V (sets_of x)) slot) is
 
--- a sound group is found again
-pub whole_as : {D : Type 0} (state : Seen) (block : GroupBlock) (V : List Seen) (o : Option (Held D)) (g : IiDisks) → as_group state block V (sets_of o) ≡ g → IsKept state block V (sets_of o) → IsSound g → AreTold (parts_of g) → AreWhole (parts_of g)
+-- a sound group is found on its parts
+pub whole_as : {D : Type 0} (state : Seen) (block : GroupBlock) (V : List Seen) (o : Option (Held D)) (g : IiDisks) → as_group state block V (sets_of o) ≡ g → IsKept state block V (sets_of o) → IsSound g → AreWhole (parts_of g)
 whole_as state block V o g view kept =
-    subst (λ (x : IiDisks). IsSound x → AreTold (parts_of x) → AreWhole (parts_of x)) view
-    (λ sound told. whole_parts state block V (sets_of o) (at_most_one o) kept sound.holds (findable block.slots V (sets_of o) (at_most_one o) sound.disks))
+    subst (λ (x : IiDisks). IsSound x → AreWhole (parts_of x)) view (whole_sound state block V (sets_of o) (at_most_one o) kept)
 
 module _ {A D : Type 0} (seen : A → Seen) (state : Seen) (block : GroupBlock) (items : List A) (o : Option (Held D)) (g : IiDisks) (view : as_group state block (map seen items) (sets_of o) ≡ g) (h : Held D) (is : o ≡ Some h) (kept : IsKept state block (map seen items) (sets_of o)) (slot : ℕ) where
   kept_h : IsKept state block (map seen items) (held_of h ∷ [])

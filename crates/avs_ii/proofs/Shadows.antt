@@ -1,5 +1,5 @@
 -- What reads and writes of a shadow make of a group that holds one set.
-use Rattle.std.proofs.Common.{◌≡◌, inl, inr, ℕ, ◌+◌, ◌/◌, ◌<◌, ◌≤◌, Bool, true, false, cond, eqb, ◌&&◌, IsTrue, All, List, [], ◌∷◌, length, map, set, find, slice_index_or, Option, None, Some, is_some, Result, Ok, Err, refl, sym, ◌∙◌, ap, subst, arith}
+use Rattle.std.proofs.Common.{◌≡◌, inl, inr, ℕ, ◌+◌, ◌/◌, ◌<◌, ◌≤◌, Bool, true, false, cond, eqb, ◌&&◌, IsTrue, All, List, [], ◌∷◌, length, map, set, find, slice_index, slice_index_or, Option, None, Some, is_some, Result, Ok, Err, refl, sym, ◌∙◌, ap, subst, arith}
 use Rattle.std.proofs.lemmas.Bool.{eqb-true, eq-eqb}
 use Rattle.avs_seg.specs.Image.{Image, block_at, blocks_of, range}
 use Rattle.avs_dev.specs.Seen.{Seen, IsTold}
@@ -10,30 +10,31 @@ use Rattle.avs_model.specs.declared.answer.Refusal.TheVariants.{NoSet, Fault}
 use Rattle.avs_model.specs.Shadows.{GroupState, ShadowState, after_stages, StoppedIn, shadow_write_stages, image_at as shadow_image_at}
 use Rattle.std.specs.Option.{option_map, option_map_or}
 use Rattle.std.proofs.Math.Seq.{map-set_same}
-use Rattle.avs_chunk.specs.Disks.{AreStillArmed}
+use Rattle.std.proofs.lemmas.List.{length-map, map-set, get_or-map, get_or-set_same}
+use Rattle.std.proofs.lemmas.Option.{same_Some}
+use Rattle.avs_chunk.specs.Disks.{AreStillArmed, Counts, CountsAtMost, raised}
 use Rattle.avs_chunk.specs.Calls.{disks_of as disks_of_chunks}
 use Rattle.avs_chunk.specs.ChunkSet.{ChunkSet, disk_of, shadow_image}
 use Rattle.avs_ii.specs.AsBelow.{quiet, quiet_chunks, quiet_set}
+use Rattle.avs_ii.proofs.OpenSets.{fits_online}
 use Rattle.avs_ii.proofs.Quiet.{group_quiet, quiet_sound, sound_quiet}
 use Rattle.avs_ii.proofs.Forms.{set_state}
-use Rattle.avs_chunk.specs.Calls.{WritesShadow, ReadsShadow, chunks_end}
+use Rattle.avs_chunk.specs.Calls.{WritesShadow, ReadsShadow, chunks_end, to_master, to_shadow, to_bitmap}
 use Rattle.avs_seg.specs.Segment.{first_segment}
 use Rattle.avs_ii.specs.Saved.{IsSettledInMemory}
 use Rattle.std.proofs.lemmas.List.Elements.{All-set}
 use Rattle.avs_ii.proofs.Masters.{settled_first, all_first}
-use Rattle.avs_ii.specs.Held.{HeldSet, IiDisks, is_live, set_at}
+use Rattle.avs_ii.specs.Held.{HeldSet, IiDisks, slot_in, is_live, set_at}
 use Rattle.avs_ii.specs.Meaning.{group_by, meaning, kept_on}
 use Rattle.avs_ii.specs.Sound.{HoldsBlock, IsSound, IsSoundSet}
 use Rattle.avs_ii.specs.Kept.{IsHeld, IsKept}
-use Rattle.avs_ii.specs.Calls.{NamesSet, WritesSet, ReadsSet, faulted, faults_of}
+use Rattle.avs_ii.specs.Calls.{NamesSet, WritesSet, CountsSet, CountsSetAtMost, ReadsSet, faulted, faults_of, written_on, on_each}
 use Rattle.avs_ii.proofs.Belows.{as_group, at_one, all_one, size_at}
 use Rattle.avs_ii.proofs.Writes.{Ready, image_at, group_before, shadow_done, shadow_stopped, none_after}
 use Rattle.avs_ii.specs.Parts.{parts_of}
-use Rattle.avs_ii.specs.Making.{AreTold, AreWhole}
-use Rattle.avs_ii.specs.Sound.{HasNoneBack}
-use Rattle.avs_ii.proofs.Making.{of_all}
+use Rattle.avs_ii.specs.Making.{AreWhole, no_faults}
 use Rattle.avs_ii.proofs.Shapes.{KeepsSet, same_disk, shapes_at, keeps_written, keeps_disks, keeps_group, settled_same, same_steady}
-use Rattle.avs_ii.proofs.Loading.{IsFindable, findable}
+use Rattle.avs_ii.proofs.Findable.{stays_read}
 use Rattle.avs_ii.proofs.Keeping.{Keeps, set_keeps}
 use Rattle.avs_ii.proofs.Several.{fell_same}
 use Rattle.avs_ii.proofs.Groups.{three_later, three_rose, three_armed, three_used, three_are_steady}
@@ -127,7 +128,7 @@ module _ (state : Seen) (block : GroupBlock) (V : List Seen) (h : HeldSet) (kept
   size_m = sym (size_at V h.master m m own.master disk) ∙ own.blocks
 
   ready : Ready block.slots V h m
-  ready = record { live = live; area = own.area live; online = own.online live; slot = own.slot; there = own.master; disk = disk; size = size_m }
+  ready = record { live = live; area = own.area live; online = fits_online (slot_in block.slots h.slot) h.chunks.kind (own.fits live); slot = own.slot; there = own.master; disk = disk; size = size_m }
 
   found : set_at g slot ≡ Some h
   found = set_found state block V h slot test
@@ -174,13 +175,48 @@ module _ (state : Seen) (block : GroupBlock) (V : List Seen) (h : HeldSet) (kept
         ordered = omega (arith, some)
     settled_after (Err f) w = settled_first h.chunks c' _ _ w.stays.blocks own.settled w.memory_stopped
 
-    none_left : {T E : Type 0} (r : Result T E) → IsSoundSet block.slots h → IsTold m → WritesShadow h.chunks m at bytes r c' m' → HasNoneBack c'
-    none_left (Ok x) o told w = none_after h.chunks c' _ _ w.stays.blocks o.none_back (w.split o.known told)
-    none_left (Err f) o told w = none_after h.chunks c' _ _ w.stays.blocks o.none_back (w.stopped o.known told).saved.splits
-
     shadow_keeps : {T E : Type 0} (r : Result T E) → WritesShadow h.chunks m at bytes r c' m' → Keeps g g'
-    shadow_keeps r w = set_keeps state block V h h.master m m' c' own.master disk (same_disk m m' w.disks.master) (keeps_written h c' m m' w.stays w.disks) (shadow_kept r w (settled_after r w))
-        (λ sound. record { label = λ l. w.stays.label (sound_set sound).known.bitmap (sound_set sound).label; none_back = λ l. none_left r (sound_set sound) (sound_told sound) w })
+    shadow_keeps r w = set_keeps state block V h h.master m m' c' own.master disk (same_disk m m' w.disks.master) (keeps_written h c' m m' w.stays w.disks) w.stays kept (shadow_kept r w (settled_after r w))
+
+    -- the set is found behind the write
+    found_after : set_at g' h.slot ≡ Some h'
+    found_after = set_found state block V' h' h.slot (both (eqb h.slot h.slot) (is_live block.slots h.slot) (eq-eqb h.slot h.slot refl) live)
+      where
+        both : (a b : Bool) → a ≡ true → b ≡ true → (a && b) ≡ true
+        both true b e f = f
+        both false b e f = e
+
+    written_was : slice_index (written_on V) h.master ≡ m.written
+    written_was = get_or-map (λ (d : Seen). d.written) V h.master m 0 own.master ∙ ap (λ (d : Seen). d.written) (sym disk)
+
+    written_now : written_on V' ≡ set (written_on V) h.master m'.written
+    written_now = map-set (λ (d : Seen). d.written) V h.master m'
+
+    written_at : slice_index (written_on V') h.master ≡ m'.written
+    written_at = ap (λ (l : List ℕ). slice_index l h.master) written_now ∙ get_or-set_same (written_on V) h.master m'.written 0 (omega (arith, own.master, length-map V (λ (d : Seen). d.written)))
+
+    counts_as : (s : HeldSet) → Some h ≡ Some s → (on_master on_shadow on_bitmap : HeldSet → ℕ) → Counts (disks_of_chunks h.chunks m) (on_master h) (on_shadow h) (on_bitmap h) (disks_of_chunks c' m') → CountsSet g s (on_master s) (on_shadow s) (on_bitmap s) g'
+    counts_as s is on_master on_shadow on_bitmap c =
+        subst (λ (x : HeldSet). CountsSet g x (on_master x) (on_shadow x) (on_bitmap x) g') (same_Some h s is)
+        (record {
+          after = h';
+          found = found_after;
+          volumes = written_now ∙ ap (λ (n : ℕ). set (written_on V) h.master n) (c.master ∙ ap (λ (n : ℕ). raised n (on_master h)) (sym written_was));
+          shadow = c.shadow;
+          bitmap = c.bitmap;
+        })
+
+    most_as : (s : HeldSet) → Some h ≡ Some s → (on_master on_shadow on_bitmap : HeldSet → ℕ) → CountsAtMost (disks_of_chunks h.chunks m) (on_master h) (on_shadow h) (on_bitmap h) (disks_of_chunks c' m') → CountsSetAtMost g s (on_master s) (on_shadow s) (on_bitmap s) g'
+    most_as s is on_master on_shadow on_bitmap c =
+        subst (λ (x : HeldSet). CountsSetAtMost g x (on_master x) (on_shadow x) (on_bitmap x) g') (same_Some h s is)
+        (record {
+          after = h';
+          found = found_after;
+          others = written_now ∙ ap (λ (n : ℕ). set (written_on V) h.master n) (sym written_at);
+          master = omega (arith, c.master, written_at, written_was);
+          shadow = c.shadow;
+          bitmap = c.bitmap;
+        })
 
     pub writes_set : {T E : Type 0} (r : Result T E) → WritesShadow h.chunks m at bytes r c' m' → WritesSet g slot at bytes (faulted r) g'
     writes_set (Ok x) w = record {
@@ -207,6 +243,8 @@ module _ (state : Seen) (block : GroupBlock) (V : List Seen) (h : HeldSet) (kept
           }));
         };
       };
+      counts = λ s is. counts_as s (sym found ∙ is) (λ x. to_master x.chunks (first_segment at) (chunks_end at (length bytes / 512))) (λ x. to_shadow x.chunks (first_segment at) (chunks_end at (length bytes / 512)) + length bytes / 512) (λ x. to_bitmap x.chunks (first_segment at) (chunks_end at (length bytes / 512))) w.counts;
+      counts_stopped = λ s is e. cc;
       shape = (shadow_keeps (Ok x) w).shape;
       still_steady = same_steady g g' (shadow_keeps (Ok x) w).shape;
       told = (shadow_keeps (Ok x) w).told;
@@ -225,6 +263,8 @@ module _ (state : Seen) (block : GroupBlock) (V : List Seen) (h : HeldSet) (kept
       stopped = λ sound e. as_meaning (Err f) w (λ a b. StoppedIn a (shadow_write_stages slot at (blocks_of bytes)) b) sound (subst (λ (k : ℕ). StoppedIn (group_by block.slots block.note V (h ∷ [])) (shadow_write_stages k at (blocks_of bytes)) (group_by block.slots block.note V' (h' ∷ []))) is_slot
           (shadow_stopped block.slots block.note V h m ready (sound_set sound).none_back (sound_set sound).known (sound_told sound) c' m' at bytes some inside f w));
       sound = λ sound. tt;
+      counts = λ s is. tt;
+      counts_stopped = λ s is e. most_as s (sym found ∙ is) (λ x. to_master x.chunks (first_segment at) (chunks_end at (length bytes / 512))) (λ x. to_shadow x.chunks (first_segment at) (chunks_end at (length bytes / 512))) (λ x. to_bitmap x.chunks (first_segment at) (chunks_end at (length bytes / 512))) w.counts_stopped;
       shape = (shadow_keeps (Err f) w).shape;
       still_steady = same_steady g g' (shadow_keeps (Err f) w).shape;
       told = (shadow_keeps (Err f) w).told;
@@ -243,6 +283,12 @@ module _ (state : Seen) (block : GroupBlock) (V : List Seen) (h : HeldSet) (kept
     quiet_shadow (Some d) None same is = cc
     quiet_shadow (Some d) (Some e) same is = ap (λ (x : Seen). Some (quiet x)) is
 
+    same_shadow : (o o' : Option Seen) → is_some o' ≡ is_some o → disk_of o' ≡ record (disk_of o) { faults = (disk_of o').faults } → option_map no_faults o' ≡ option_map no_faults o
+    same_shadow None None same is = refl
+    same_shadow None (Some d) same is = cc
+    same_shadow (Some d) None same is = cc
+    same_shadow (Some d) (Some e) same is = ap (λ (x : Seen). Some (no_faults x)) is
+
     module _ {T E : Type 0} (r : Result T E) (w : ReadsShadow h.chunks m at out r c' m') where
       quiet_same : quiet_set (record h { chunks = c' }) ≡ quiet_set h
       quiet_same =
@@ -251,6 +297,12 @@ module _ (state : Seen) (block : GroupBlock) (V : List Seen) (h : HeldSet) (kept
 
       volumes_quiet : map quiet (set V h.master m') ≡ map quiet V
       volumes_quiet = map-set_same quiet V h.master m' m (ap quiet (w.master ∙ ap (λ (d : Seen). record d { faults = m'.faults }) disk))
+
+      disks_same : on_each no_faults read_group ≡ on_each no_faults g
+      disks_same =
+          ap (λ (l : List Seen). record (on_each no_faults read_group) { volumes = l }) (map-set_same no_faults V h.master m' m (ap (λ (d : Seen). no_faults d) (w.master ∙ ap (λ (d : Seen). record d { faults = m'.faults }) disk)))
+          ∙ ap (λ (c : ChunkSet). on_each no_faults (as_group state block V (record h { chunks = c } ∷ []))) w.rest
+          ∙ ap (λ (o : Option Seen). record (on_each no_faults g) { sets = record h { chunks = record h.chunks { shadow = o; areas = record h.chunks.areas { disk = no_faults h.chunks.areas.disk } } } ∷ [] }) (same_shadow h.chunks.shadow c'.shadow w.there w.shadow)
 
       pub read_same : (note : List ℕ) (slots : List Slot) → group_by slots note (set V h.master m') (record h { chunks = c' } ∷ []) ≡ group_by slots note V (h ∷ [])
       read_same note slots =
@@ -291,13 +343,13 @@ module _ (state : Seen) (block : GroupBlock) (V : List Seen) (h : HeldSet) (kept
       read_set_kept = keeps_group state block V (set V h.master m') h c' keeps_set (shapes_at V h.master m m' disk (same_disk m m' w.disks.master)) (settled_same h c' rest_is own.settled) kept
 
       read_keeps : Keeps g read_group
-      read_keeps = set_keeps state block V h h.master m m' c' own.master disk (same_disk m m' w.disks.master) keeps_set read_set_kept
-          (λ sound. let o = of_all (IsFindable block.slots) (record h { chunks = c' }) (findable block.slots (set V h.master m') (record h { chunks = c' } ∷ []) (omega arith) (read_sound sound).disks) in o)
+      read_keeps = set_keeps state block V h h.master m m' c' own.master disk (same_disk m m' w.disks.master) keeps_set (stays_read h.chunks c' w.rest w.there) kept read_set_kept
 
     pub reads_set : {T E : Type 0} (r : Result T E) → ReadsShadow h.chunks m at out r c' m' → ReadsSet g slot out at (faulted r) read_group
     reads_set (Ok x) w = record {
       names = names_ok (set_at g slot) h x found;
       no_set = λ e. cc;
+      rest = disks_same (Ok x) w;
       state = refl;
       block = refl;
       armed = three_armed state V h.master m m' h (record h { chunks = c' }) own.master disk own.there (read_there (Ok x) w) w.disks (still_armed (Ok x) w);
@@ -315,6 +367,7 @@ module _ (state : Seen) (block : GroupBlock) (V : List Seen) (h : HeldSet) (kept
     reads_set (Err f) w = record {
       names = names_fault (set_at g slot) h found;
       no_set = λ e. cc;
+      rest = disks_same (Err f) w;
       state = refl;
       block = refl;
       armed = three_armed state V h.master m m' h (record h { chunks = c' }) own.master disk own.there (read_there (Err f) w) w.disks (still_armed (Err f) w);
@@ -332,7 +385,7 @@ module _ (state : Seen) (block : GroupBlock) (V : List Seen) (h : HeldSet) (kept
 
 -- ---- no set is named
 
-pub writes_none : {T : Type 0} (g : IiDisks) (slot at : ℕ) (bytes : List ℕ) → (IsSound g → AreTold (parts_of g) → AreWhole (parts_of g)) → set_at g slot ≡ None → WritesSet {T = T} g slot at bytes (Err NoSet) g
+pub writes_none : {T : Type 0} (g : IiDisks) (slot at : ℕ) (bytes : List ℕ) → (IsSound g → AreWhole (parts_of g)) → set_at g slot ≡ None → WritesSet {T = T} g slot at bytes (Err NoSet) g
 writes_none g slot at bytes whole none = record {
   names = names_none (set_at g slot) none;
   no_set = λ e. refl;
@@ -345,16 +398,19 @@ writes_none g slot at bytes whole none = record {
   done = λ sound. tt;
   stopped = λ sound e. cc;
   sound = λ sound. tt;
+  counts = λ s is. tt;
+  counts_stopped = λ s is e. cc;
   shape = refl;
   still_steady = refl;
   told = λ told. told;
-  whole = whole;
+  whole = record { before = whole; after = λ told found. found };
 }
 
-pub reads_none : {T : Type 0} (g : IiDisks) (slot at : ℕ) (out : List ℕ) → (IsSound g → AreTold (parts_of g) → AreWhole (parts_of g)) → set_at g slot ≡ None → ReadsSet {T = T} g slot out at (Err NoSet) g
+pub reads_none : {T : Type 0} (g : IiDisks) (slot at : ℕ) (out : List ℕ) → (IsSound g → AreWhole (parts_of g)) → set_at g slot ≡ None → ReadsSet {T = T} g slot out at (Err NoSet) g
 reads_none g slot at out whole none = record {
   names = names_none (set_at g slot) none;
   no_set = λ e. refl;
+  rest = refl;
   state = refl;
   block = refl;
   armed = refl;
@@ -367,5 +423,5 @@ reads_none g slot at out whole none = record {
   shape = refl;
   still_steady = refl;
   told = λ told. told;
-  whole = whole;
+  whole = record { before = whole; after = λ told found. found };
 }

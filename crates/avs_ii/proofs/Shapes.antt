@@ -17,12 +17,12 @@ use Rattle.avs_chunk.specs.States.{area_len, blocks_for}
 use Rattle.avs_chunk.specs.Disks.{IsSameDisk, AreSameDisks}
 use Rattle.avs_chunk.specs.ChunkSet.{ChunkSet, disk_of, disks_there, both_disks}
 use Rattle.avs_chunk.specs.Calls.{Stays, disks_of as disks_of_chunks}
-use Rattle.avs_ii.specs.Held.{HeldSet, IiDisks, disks_of}
+use Rattle.avs_ii.specs.Held.{HeldSet, IiDisks, slot_in, disks_of}
 use Rattle.avs_ii.specs.Shape.{DiskShape, SetShape, GroupShape, disk_shape, set_shape, shape_of}
 use Rattle.avs_ii.specs.Kept.{IsHeld, IsKept}
 use Rattle.avs_ii.specs.Opening.{IsOnDisks}
 use Rattle.avs_ii.specs.Parts.{set_parts, size_of}
-use Rattle.avs_ii.specs.Making.{IsSetTold, kind_number}
+use Rattle.avs_ii.specs.Making.{IsSetTold, fits_slot}
 use Rattle.avs_ii.specs.Saved.{IsSettledInMemory}
 use Rattle.avs_ii.specs.Calls.{are_steady}
 
@@ -184,8 +184,7 @@ module _ (h : HeldSet) (c : ChunkSet) (keeps : KeepsSet h c) where
       whole = subst (λ (k : Kind). (k ≡ Ind) ⊎ (k ≡ Dep)) (sym keeps.kind) own.whole;
       area = λ l. keeps.live_b ∙ own.area l;
       first = λ no. keeps.live_b ∙ own.first no;
-      number = λ l. own.number l ∙ ap (λ (k : Kind). kind_number k) (sym keeps.kind);
-      online = own.online;
+      fits = λ l. ap (λ (k : Kind). fits_slot (slot_in slots h.slot) k) keeps.kind ∙ own.fits l;
       settled = settled;
       some = subst (λ (n : ℕ). 0 < n) (sym keeps.blocks) own.some;
       on = keeps_on own.on;

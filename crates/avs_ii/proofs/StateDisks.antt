@@ -7,12 +7,12 @@ use Rattle.avs_seg.proofs.Bytes.{blocks_of-between, blocks_of_one}
 use Rattle.avs_seg.proofs.Ranges.{range_one, block_at-range}
 use Rattle.avs_seg.proofs.Puts.{put_one-set, length-put}
 use Rattle.avs_dev.specs.Seen.{Seen, IsTold}
-use Rattle.avs_code.specs.Label.{IsLabel}
+use Rattle.avs_code.specs.Label.{IsLabel, IsBadLabel}
 use Rattle.avs_code.specs.GroupBlock.{IsGroupBlock, group_block_rules}
 use Rattle.avs_code.specs.Rules.{first_broken}
 use Rattle.avs_code.specs.declared.group_blocks.GroupBlock.{GroupBlock}
-use Rattle.avs_ii.specs.Sound.{HoldsBlock, state_label}
-use Rattle.avs_ii.specs.Making.{IsBadLabel, IsBadState, IsGoodState}
+use Rattle.avs_ii.specs.Sound.{HoldsBlock, state_use, state_label}
+use Rattle.avs_ii.specs.Making.{IsBadState, IsGoodState}
 
 -- a block of a slice
 pub block_between : (bytes : List ℕ) (at a e : ℕ) → a ≡ 512 * at → e ≡ 512 * at + 512 → e ≤ length bytes → between a e bytes ≡ block_at (blocks_of bytes) at
@@ -68,5 +68,8 @@ module _ (old : Seen) (bytes : List ℕ) (two : length bytes / 512 ≡ 2) (shows
   )
     where
       bad_there : IsBadState (blocks_of bytes) field → IsBadState old.image field
-      bad_there (inl label) = inl (subst (λ (b : Block). IsBadLabel b field) (read_at 0 (omega arith)) label)
-      bad_there (inr block) = inr (subst (λ (b : Block). first_broken (group_block_rules b) ≡ Some field) (read_at 1 (omega arith)) block)
+      bad_there (inl label) = inl (subst (λ (b : Block). IsBadLabel b state_use field) (read_at 0 (omega arith)) label)
+      bad_there (inr w) = inr (record {
+        label = subst (λ (b : Block). IsLabel b state_label) (read_at 0 (omega arith)) w.label;
+        block = subst (λ (b : Block). first_broken (group_block_rules b) ≡ Some field) (read_at 1 (omega arith)) w.block;
+      })

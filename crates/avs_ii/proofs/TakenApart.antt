@@ -143,8 +143,7 @@ module _ (state : Seen) (block : GroupBlock) (V : List Seen) (kind : Kind) (mast
       whole = subst (λ (k : Kind). (k ≡ Ind) ⊎ (k ≡ Dep)) (sym (ap (λ (s : ChunkSet). s.kind) makes.is)) (whole_of (the_group state block V []) kind within);
       area = λ live. absurd (false≢true (sym free.not_live ∙ live));
       first = λ _. ap (λ (s : ChunkSet). s.areas.live_b) makes.is;
-      number = λ live. absurd (false≢true (sym free.not_live ∙ live));
-      online = λ live. absurd (false≢true (sym free.not_live ∙ live));
+      fits = λ live. absurd (false≢true (sym free.not_live ∙ live));
       settled = record { none = λ c lt is. never (sym (makes.states c lt) ∙ is) };
       some = omega (arith, some, ap (λ (s : ChunkSet). s.blocks) makes.is);
       on = on_made;

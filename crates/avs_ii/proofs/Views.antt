@@ -11,9 +11,11 @@ use Rattle.avs_ii.specs.Kept.{IsHeld, IsKept, HasRoom}
 use Rattle.avs_ii.specs.AsBelow.{below_of, rest_of, WroteRest}
 use Rattle.avs_chunk.specs.ChunkSet.{ChunkSet}
 use Rattle.avs_ii.specs.Saved.{WritesMaster}
+use Rattle.avs_ii.specs.Making.{no_faults}
+use Rattle.avs_ii.specs.Calls.{on_each}
 use Rattle.avs_ii.proofs.Making.{at_most_one}
 use Rattle.avs_ii.proofs.Keeping.{Keeps, keeps_read, keeps_write, volume_keeps, master_keeps}
-use Rattle.avs_ii.proofs.Belows.{as_group, at_one, size_at, size_is, master_kept, master_writes, master_wrote, v_kept, v_writes, v_reads, v_reads_rest, v_reads_kept, none_wrote, one_wrote}
+use Rattle.avs_ii.proofs.Belows.{as_group, at_one, size_at, size_is, master_kept, master_writes, master_wrote, v_kept, v_writes, v_reads, v_reads_rest, v_reads_same, v_reads_kept, none_wrote, one_wrote}
 
 module _ {A : Type 0} (seen : A → Seen) (items : List A) (vol : ℕ) (was : A) (value : was ≡ slice_index_or items vol was) where
   pub there_as : vol < length items → vol < length (map seen items)
@@ -168,6 +170,9 @@ module _ {A D : Type 0} (seen : A → Seen) (state : Seen) (block : GroupBlock) 
 
   pub read_rest : rest_of (as_group state block (map seen (set items vol new)) (sets_of o)) ≡ rest_of g
   read_rest = ap rest_of (sym now_r) ∙ v_reads_rest state block (map seen items) (sets_of o) vol (seen was) (seen new) there_r disk_r at out result w ∙ ap rest_of view
+
+  pub read_same : on_each no_faults (as_group state block (map seen (set items vol new)) (sets_of o)) ≡ on_each no_faults g
+  read_same = ap (λ (x : IiDisks). on_each no_faults x) (sym now_r) ∙ v_reads_same state block (map seen items) (sets_of o) vol (seen was) (seen new) there_r disk_r at out result w ∙ ap (λ (x : IiDisks). on_each no_faults x) view
 
   pub read_keeps : IsKept state block (map seen items) (sets_of o) → Keeps g (as_group state block (map seen (set items vol new)) (sets_of o))
   read_keeps kept =

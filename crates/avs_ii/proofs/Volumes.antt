@@ -17,7 +17,8 @@ use Rattle.avs_ii.specs.Held.{HeldSet, IiDisks, is_live, pending_in}
 use Rattle.avs_ii.specs.Meaning.{group_by, meaning, kept_on}
 use Rattle.avs_ii.specs.Sound.{IsSound, AreSound, IsSoundSet}
 use Rattle.avs_ii.specs.Kept.{IsHeld, IsKept}
-use Rattle.avs_ii.specs.Calls.{IsVolumeRange, ReadsVolume, WritesVolume, written_on, written_after}
+use Rattle.avs_ii.specs.Making.{no_faults}
+use Rattle.avs_ii.specs.Calls.{IsVolumeRange, ReadsVolume, WritesVolume, written_on, written_after, on_each}
 use Rattle.avs_ii.specs.AsBelow.{below_of, rest_of, IiRest, quiet, quiet_set, group_of, IsSoundRest, WroteRest}
 use Rattle.avs_ii.proofs.Making.{master_len, all_none, all_of, of_all}
 use Rattle.avs_ii.proofs.Forms.{group_none, group_pending, group_one}
@@ -205,8 +206,9 @@ module _ (state : Seen) (block : GroupBlock) (V V' : List Seen) (sets : List Hel
   image_is sound =
       ap (λ (l : List Image). slice_index_or l vol []) (sym (ap (λ (x : GroupState). x.volumes) (meaning_is state block V sets sound.holds) ∙ volumes_by block.slots block.note V sets one kept.held sound.disks state))
 
-  reads_volume : {T E : Type 0} (r : Result T E) → vol < length V → Keeps b b' → ReadsBelow (below_of b) vol at out r (below_of b') → rest_of b' ≡ rest_of b → ReadsVolume b vol out at r b'
-  reads_volume r there keeps w rest = record {
+  reads_volume : {T E : Type 0} (r : Result T E) → vol < length V → Keeps b b' → ReadsBelow (below_of b) vol at out r (below_of b') → rest_of b' ≡ rest_of b → on_each no_faults b' ≡ on_each no_faults b → ReadsVolume b vol out at r b'
+  reads_volume r there keeps w rest same = record {
+    rest = same;
     state = refl;
     block = refl;
     pending = refl;
@@ -230,5 +232,5 @@ module _ (state : Seen) (block : GroupBlock) (V V' : List Seen) (sets : List Hel
       shown (Ok x) told is shows = shows told ∙ ap (λ (i : Image). range i at (length out / 512)) is
       shown (Err f) told is shows = tt
 
-  pub read_exit : (x : IiDisks) → as_group state block V sets ≡ x → {T E : Type 0} (r : Result T E) → vol < length V → Keeps x (as_group state block V' sets) → ReadsBelow (below_of x) vol at out r (below_of (as_group state block V' sets)) → rest_of (as_group state block V' sets) ≡ rest_of x → ReadsVolume x vol out at r (as_group state block V' sets)
-  read_exit x view r = subst (λ (y : IiDisks). vol < length V → Keeps y b' → ReadsBelow (below_of y) vol at out r (below_of b') → rest_of b' ≡ rest_of y → ReadsVolume y vol out at r b') view (reads_volume r)
+  pub read_exit : (x : IiDisks) → as_group state block V sets ≡ x → {T E : Type 0} (r : Result T E) → vol < length V → Keeps x (as_group state block V' sets) → ReadsBelow (below_of x) vol at out r (below_of (as_group state block V' sets)) → rest_of (as_group state block V' sets) ≡ rest_of x → on_each no_faults (as_group state block V' sets) ≡ on_each no_faults x → ReadsVolume x vol out at r (as_group state block V' sets)
+  read_exit x view r = subst (λ (y : IiDisks). vol < length V → Keeps y b' → ReadsBelow (below_of y) vol at out r (below_of b') → rest_of b' ≡ rest_of y → on_each no_faults b' ≡ on_each no_faults y → ReadsVolume y vol out at r b') view (reads_volume r)

@@ -3,6 +3,7 @@ use Rattle.std.specs.Prelude.{◌≡◌, ◌⊎◌, ℕ, ◌+◌, ◌*◌, ◌/�
 use Rattle.std.specs.List.{list_any, list_all}
 use Rattle.std.specs.Option.{option_map, option_map_or}
 use Rattle.avs_seg.specs.Image.{blocks_of, range}
+use Rattle.avs_seg.specs.Segment.{first_segment}
 use Rattle.avs_dev.specs.Devices.{NoneFell, OneRose, UsesOneTear}
 use Rattle.avs_dev.specs.Seen.{Seen, IsTold, Writes}
 use Rattle.avs_dev.specs.Memory.{counted}
@@ -16,14 +17,16 @@ use Rattle.avs_model.specs.declared.answer.Refusal.{Refusal}
 use Rattle.avs_model.specs.declared.answer.Refusal.TheVariants.{NoSet, Size, Limit, NoMemory, Fault}
 use Rattle.avs_model.specs.declared.shadow.Kind.{Kind}
 use Rattle.avs_model.specs.declared.shadow.Kind.TheVariants.{Ind, Dep, Compact}
-use Rattle.avs_chunk.specs.ChunkSet.{ChunkSet}
+use Rattle.avs_chunk.specs.ChunkSet.{ChunkSet, disk_of}
+use Rattle.avs_chunk.specs.Calls.{to_master, to_shadow, to_bitmap, chunks_end}
+use Rattle.avs_chunk.specs.Disks.{raised}
 use Rattle.avs_chunk.specs.Making.{Makes, IsSmall, Fits, FailsFormat}
 use Rattle.avs_ii.specs.Held.{HeldSet, IiDisks, is_live, has_flag, live, set_at, pending_in, pending_at, volume_at, disks_of}
 use Rattle.avs_ii.specs.Meaning.{meaning}
 use Rattle.avs_ii.specs.Sound.{IsSound, IsFresh}
 use Rattle.avs_ii.specs.Shape.{shape_of}
 use Rattle.avs_ii.specs.Parts.{parts_of}
-use Rattle.avs_ii.specs.Making.{AreTold, AreWhole, kind_number}
+use Rattle.avs_ii.specs.Making.{AreTold, AreWhole, kind_number, no_faults}
 
 -- the counts of faults of all disks, whether a tear is armed on each, and whether all are steady
 abbrev pub faults_of : IiDisks → List ℕ
@@ -35,8 +38,24 @@ armed_of g = map (λ d. d.armed) (disks_of g)
 abbrev pub are_steady : IiDisks → Bool
 are_steady g = list_all (λ d. d.steady) (disks_of g)
 
+-- a set, and a group, with something done to each of its disks
+abbrev pub on_set : (Seen → Seen) → HeldSet → HeldSet
+on_set f s = record s { chunks = record s.chunks { shadow = option_map f s.chunks.shadow; areas = record s.chunks.areas { disk = f s.chunks.areas.disk } } }
+
+abbrev pub on_each : (Seen → Seen) → IiDisks → IiDisks
+on_each f g = record g { state = f g.state; volumes = map f g.volumes; sets = map (on_set f) g.sets }
+
+-- a disk without the tear that may be armed on it
+abbrev pub no_tear : Seen → Seen
+no_tear d = record d { armed = false }
+
 -- The calls on contents tell at both exits that the shape stays, that disks which tell their blocks go on to do so, and that
--- the group is found again on them, whatever the call answered.
+-- the group is found again on them, whatever this call and those before it answered.
+
+-- a sound group is found on its parts, and where a group is found on parts that tell their blocks, so it is after the call
+pub record IsFoundAgain (old new : IiDisks) : Type 0 where
+  pub before : IsSound old → AreWhole (parts_of old)
+  pub after : AreTold (parts_of old) → AreWhole (parts_of old) → AreWhole (parts_of new)
 
 -- a volume is added behind the others
 pub record Adds (old : IiDisks) (disk : Seen) (new : IiDisks) : Type 0 where
@@ -149,7 +168,7 @@ pub record Confirms {T : Type 0} (old : IiDisks) (slot : ℕ) (result : Result T
   pub shape : shape_of new ≡ shape_of old
   pub still_steady : are_steady new ≡ are_steady old
   pub told : AreTold (parts_of old) → AreTold (parts_of new)
-  pub whole : (s : HeldSet) → pending_at old slot ≡ Some s → IsSound old → IsFresh s → AreTold (parts_of old) → AreWhole (parts_of new)
+  pub whole : (s : HeldSet) → pending_at old slot ≡ Some s → IsFresh s → IsFoundAgain old new
 
 -- the pending set of least slot is given up with its disks, and the group's state stays
 pub record GivesUp (old : IiDisks) (s : HeldSet) (shadow bitmap : Seen) (new : IiDisks) : Type 0 where
@@ -173,6 +192,7 @@ pub record IsShadowRange (g : IiDisks) (slot at len : ℕ) : Type 0 where
 pub record ReadsSet {T : Type 0} (old : IiDisks) (slot : ℕ) (out : List ℕ) (at : ℕ) (result : Result T Refusal) (new : IiDisks) : Type 0 where
   pub names : NamesSet (set_at old slot) result
   pub no_set : result ≡ Err NoSet → new ≡ old
+  pub rest : on_each no_faults new ≡ on_each no_faults old
   pub state : new.state ≡ old.state
   pub block : new.block ≡ old.block
   pub armed : armed_of new ≡ armed_of old
@@ -185,7 +205,28 @@ pub record ReadsSet {T : Type 0} (old : IiDisks) (slot : ℕ) (out : List ℕ) (
   pub shape : shape_of new ≡ shape_of old
   pub still_steady : are_steady new ≡ are_steady old
   pub told : AreTold (parts_of old) → AreTold (parts_of new)
-  pub whole : IsSound old → AreTold (parts_of old) → AreWhole (parts_of new)
+  pub whole : IsFoundAgain old new
+
+-- the blocks written on each of some disks
+abbrev pub written_on : List Seen → List ℕ
+written_on disks = map (λ d. d.written) disks
+
+-- so many blocks more are written on the master, on the shadow's disk and on the bitmap's, and none on another volume
+pub record CountsSet (old : IiDisks) (s : HeldSet) (on_master on_shadow on_bitmap : ℕ) (new : IiDisks) : Type 0 where
+  pub after : HeldSet
+  pub found : set_at new s.slot ≡ Some after
+  pub volumes : written_on new.volumes ≡ slice_set (written_on old.volumes) s.master (raised (slice_index (written_on old.volumes) s.master) on_master)
+  pub shadow : (disk_of after.chunks.shadow).written ≡ raised (disk_of s.chunks.shadow).written on_shadow
+  pub bitmap : after.chunks.areas.disk.written ≡ raised s.chunks.areas.disk.written on_bitmap
+
+-- at most so many blocks more are written on each, and none on another volume
+pub record CountsSetAtMost (old : IiDisks) (s : HeldSet) (on_master on_shadow on_bitmap : ℕ) (new : IiDisks) : Type 0 where
+  pub after : HeldSet
+  pub found : set_at new s.slot ≡ Some after
+  pub others : written_on new.volumes ≡ slice_set (written_on old.volumes) s.master (slice_index (written_on new.volumes) s.master)
+  pub master : slice_index (written_on new.volumes) s.master ≤ slice_index (written_on old.volumes) s.master + on_master
+  pub shadow : (disk_of after.chunks.shadow).written ≤ (disk_of s.chunks.shadow).written + on_shadow
+  pub bitmap : after.chunks.areas.disk.written ≤ s.chunks.areas.disk.written + on_bitmap
 
 -- blocks of a shadow are written, by the stages of such a write; a fault stops them
 pub record WritesSet {T : Type 0} (old : IiDisks) (slot at : ℕ) (bytes : List ℕ) (result : Result T Refusal) (new : IiDisks) : Type 0 where
@@ -200,10 +241,14 @@ pub record WritesSet {T : Type 0} (old : IiDisks) (slot at : ℕ) (bytes : List 
   pub done : IsSound old → OnOk result (meaning new ≡ after_stages (meaning old) (shadow_write_stages slot at (blocks_of bytes)))
   pub stopped : IsSound old → result ≡ Err Fault → StoppedIn (meaning old) (shadow_write_stages slot at (blocks_of bytes)) (meaning new)
   pub sound : IsSound old → OnOk result (IsSound new)
+  pub counts : (s : HeldSet) → set_at old slot ≡ Some s → OnOk result (CountsSet old s (to_master s.chunks (first_segment at) (chunks_end at (length bytes / 512)))
+      (to_shadow s.chunks (first_segment at) (chunks_end at (length bytes / 512)) + length bytes / 512) (to_bitmap s.chunks (first_segment at) (chunks_end at (length bytes / 512))) new)
+  pub counts_stopped : (s : HeldSet) → set_at old slot ≡ Some s → result ≡ Err Fault → CountsSetAtMost old s (to_master s.chunks (first_segment at) (chunks_end at (length bytes / 512)))
+      (to_shadow s.chunks (first_segment at) (chunks_end at (length bytes / 512))) (to_bitmap s.chunks (first_segment at) (chunks_end at (length bytes / 512))) new
   pub shape : shape_of new ≡ shape_of old
   pub still_steady : are_steady new ≡ are_steady old
   pub told : AreTold (parts_of old) → AreTold (parts_of new)
-  pub whole : IsSound old → AreTold (parts_of old) → AreWhole (parts_of new)
+  pub whole : IsFoundAgain old new
 
 -- so many bytes are whole blocks, one or more, and lie inside a volume from its block `at` on
 pub record IsVolumeRange (g : IiDisks) (volume at len : ℕ) : Type 0 where
@@ -212,15 +257,13 @@ pub record IsVolumeRange (g : IiDisks) (volume at len : ℕ) : Type 0 where
   pub whole : 512 * (len / 512) ≡ len
   pub inside : at + len / 512 ≤ blocks_at g volume
 
--- the blocks written on each of some disks, and after so many more on one
-abbrev pub written_on : List Seen → List ℕ
-written_on disks = map (λ d. d.written) disks
-
+-- the same after so many more on one
 abbrev pub written_after : List Seen → ℕ → ℕ → List ℕ
 written_after disks place count = slice_set (written_on disks) place (counted (slice_index (written_on disks) place) count)
 
 -- blocks of a volume are read, and nothing changes but the counts of faults
 pub record ReadsVolume {T E : Type 0} (old : IiDisks) (volume : ℕ) (out : List ℕ) (at : ℕ) (result : Result T E) (new : IiDisks) : Type 0 where
+  pub rest : on_each no_faults new ≡ on_each no_faults old
   pub state : new.state ≡ old.state
   pub block : new.block ≡ old.block
   pub pending : pending_in new.block.slots new.sets ≡ pending_in old.block.slots old.sets
@@ -234,7 +277,7 @@ pub record ReadsVolume {T E : Type 0} (old : IiDisks) (volume : ℕ) (out : List
   pub shape : shape_of new ≡ shape_of old
   pub still_steady : are_steady new ≡ are_steady old
   pub told : AreTold (parts_of old) → AreTold (parts_of new)
-  pub whole : IsSound old → AreTold (parts_of old) → AreWhole (parts_of new)
+  pub whole : IsFoundAgain old new
 
 -- blocks of a volume are written, by the stages of such a write; a fault stops them
 pub record WritesVolume {T E : Type 0} (old : IiDisks) (volume at : ℕ) (bytes : List ℕ) (result : Result T E) (new : IiDisks) : Type 0 where
@@ -252,13 +295,14 @@ pub record WritesVolume {T E : Type 0} (old : IiDisks) (volume at : ℕ) (bytes 
   pub shape : shape_of new ≡ shape_of old
   pub still_steady : are_steady new ≡ are_steady old
   pub told : AreTold (parts_of old) → AreTold (parts_of new)
-  pub whole : IsSound old → AreTold (parts_of old) → AreWhole (parts_of new)
+  pub whole : IsFoundAgain old new
 
--- a tear is armed on one of the disks; where none is, nothing changes
+-- a tear is armed on one of the disks, and no more changes; where none is, nothing does
 pub record ArmsGroup (old : IiDisks) (disk : ℕ) (result : Bool) (new : IiDisks) : Type 0 where
   pub answer : result ≡ option_map_or (λ d. d.arms) (slice_get (disks_of old) disk) false
   pub armed : IsTrue result → disks_of new ≡ slice_set (disks_of old) disk (record (slice_index_or (disks_of old) disk old.state) { armed = true })
   pub unarmed : IsTrue (not result) → new ≡ old
+  pub rest : on_each no_tear new ≡ on_each no_tear old
   pub block : new.block ≡ old.block
   pub group : meaning new ≡ meaning old
   pub shape : shape_of new ≡ shape_of old

@@ -4,18 +4,17 @@ use Rattle.avs_dev.specs.Seen.{Seen}
 use Rattle.avs_code.specs.GroupBlock.{GroupBlockKeeps, GroupBlockFits}
 use Rattle.avs_code.specs.declared.slot_table.Slot.{Slot}
 use Rattle.avs_code.specs.declared.group_blocks.GroupBlock.{GroupBlock}
-use Rattle.avs_model.specs.Shadows.{slot_count, Online}
+use Rattle.avs_model.specs.Shadows.{slot_count}
 use Rattle.avs_model.specs.declared.shadow.Kind.TheVariants.{Ind, Dep}
 use Rattle.avs_ii.specs.Held.{HeldSet, is_live, has_flag, area_b, slot_in}
-use Rattle.avs_ii.specs.Meaning.{standing_of}
 use Rattle.avs_ii.specs.Saved.{IsSettledInMemory}
 use Rattle.avs_ii.specs.Parts.{size_of}
-use Rattle.avs_ii.specs.Making.{kind_number}
+use Rattle.avs_ii.specs.Making.{state_blocks, fits_slot}
 use Rattle.avs_ii.specs.Opening.{IsOnDisks}
 
 -- of a set: its slot and its master are there, the shadow's disk too, its disks have room for it, it is as large as its
 -- master, which has a block, no chunk stands on the shadow alone; where it is pending the first area is live; and where it
--- is enabled the area is live and the kind is given that its slot says, and it is neither offline nor exported
+-- is enabled the area is live that its slot says, which fits its kind
 pub record IsHeld (slots : List Slot) (volumes : List Seen) (s : HeldSet) : Type 0 where
   pub slot : s.slot < slot_count
   pub master : s.master < length volumes
@@ -24,15 +23,14 @@ pub record IsHeld (slots : List Slot) (volumes : List Seen) (s : HeldSet) : Type
   pub whole : (s.chunks.kind ≡ Ind) ⊎ (s.chunks.kind ≡ Dep)
   pub area : is_live slots s.slot ≡ true → s.chunks.areas.live_b ≡ has_flag area_b (slot_in slots s.slot)
   pub first : is_live slots s.slot ≡ false → s.chunks.areas.live_b ≡ false
-  pub number : is_live slots s.slot ≡ true → (slot_in slots s.slot).kind ≡ kind_number s.chunks.kind
-  pub online : is_live slots s.slot ≡ true → standing_of (slot_in slots s.slot) ≡ Online
+  pub fits : is_live slots s.slot ≡ true → fits_slot (slot_in slots s.slot) s.chunks.kind ≡ true
   pub settled : IsSettledInMemory s.chunks
   pub some : 0 < s.chunks.blocks
   pub on : IsOnDisks s
 
 -- of a group: its state disk is large enough, and its block can be written
 pub record IsKept (disk : Seen) (block : GroupBlock) (volumes : List Seen) (sets : List HeldSet) : Type 0 where
-  pub room : 64 ≤ disk.size
+  pub room : state_blocks ≤ disk.size
   pub keeps : GroupBlockKeeps block
   pub fits : GroupBlockFits block
   pub count : length volumes < 2 ^ 32

@@ -1,8 +1,8 @@
 -- How a group is made on a state disk and found on its parts, and why not.
-use Rattle.std.specs.Prelude.{◌≡◌, ◌⊎◌, ◌≢◌, ℕ, ◌^◌, ◌<◌, ◌≤◌, ◌==◌, Bool, true, false, IsTrue, if◌then◌else◌, List, [], ◌∷◌, ◌++◌, length, map, replicate, All, Option, None, Some, Result}
-use Rattle.std.specs.List.{Any, flat_map, list_all}
+use Rattle.std.specs.Prelude.{◌≡◌, ◌⊎◌, ◌≢◌, ℕ, ◌^◌, ◌<◌, ◌≤◌, ◌==◌, Bool, true, false, not, ◌&&◌, IsTrue, List, [], ◌∷◌, ◌++◌, length, map, replicate, All, None, Some, Result}
+use Rattle.std.specs.List.{flat_map, list_all}
 use Rattle.std.specs.Option.{option_map}
-use Rattle.avs_seg.specs.Image.{Block, Image, block_at, put, blocks_of, IsMix}
+use Rattle.avs_seg.specs.Image.{Image, block_at, put, blocks_of, IsMix}
 use Rattle.avs_seg.specs.Segment.{seg_count}
 use Rattle.avs_seg.specs.Causes.{Rose}
 use Rattle.avs_dev.specs.Seen.{Seen, IsTold, UsesTear, Writes}
@@ -10,27 +10,26 @@ use Rattle.avs_dev.specs.Devices.{NoneFell, OneRose}
 use Rattle.avs_dev.specs.Memory.{counted}
 use Rattle.avs_dev.specs.declared.back.Why.{Why}
 use Rattle.avs_dev.specs.declared.back.Why.TheVariants.{Size, BadRecord, NoMemory, Fault}
-use Rattle.avs_code.specs.Label.{IsLabel, label_block, label_rules}
+use Rattle.avs_code.specs.Label.{IsLabel, IsBadLabel, label_block}
 use Rattle.avs_code.specs.GroupBlock.{IsGroupBlock, group_block, group_block_rules}
 use Rattle.avs_code.specs.Slot.{no_slot}
 use Rattle.avs_code.specs.Rules.{first_broken}
-use Rattle.avs_code.specs.declared.labels.Label.{Label}
 use Rattle.avs_code.specs.declared.slot_table.Slot.{Slot}
 use Rattle.avs_code.specs.declared.group_blocks.GroupBlock.{GroupBlock}
 use Rattle.avs_model.specs.Shadows.{GroupState, bare_group, slot_count}
 use Rattle.avs_model.specs.declared.shadow.Kind.{Kind}
 use Rattle.avs_model.specs.declared.shadow.Kind.TheVariants.{Ind, Dep, Compact}
 use Rattle.avs_flip.specs.Areas.{live}
-use Rattle.avs_chunk.specs.States.{on_shadow, state_on, blocks_for}
+use Rattle.avs_chunk.specs.States.{on_master, on_shadow, state_on, blocks_for}
 use Rattle.avs_chunk.specs.Disks.{IsSameDisk}
-use Rattle.avs_chunk.specs.ChunkSet.{shadow_label, disk_of}
+use Rattle.avs_chunk.specs.ChunkSet.{shadow_label, disk_of, state_of, chunks_of, both_disks}
 use Rattle.avs_chunk.specs.Making as chunk
-use Rattle.avs_ii.specs.Held.{IiDisks, disks_of, slot_in, is_live, has_flag, area_b, offline, exported}
+use Rattle.avs_ii.specs.Held.{HeldSet, IiDisks, disks_of, slot_in, is_live, has_flag, area_b, offline, exported, pending_in}
 use Rattle.avs_ii.specs.Meaning.{meaning, kept_on}
-use Rattle.avs_ii.specs.Sound.{IsSound, state_label}
+use Rattle.avs_ii.specs.Sound.{IsSound, IsFresh, HoldsBlock, state_label, state_use}
 use Rattle.avs_ii.specs.SetDisks.{SetDisks}
 use Rattle.avs_ii.specs.Shape.{shape_of, parts_shape}
-use Rattle.avs_ii.specs.Parts.{PartDisks, size_of, parts_of, meaning_of_parts}
+use Rattle.avs_ii.specs.Parts.{PartDisks, size_of, set_parts, parts_of, meaning_of_parts}
 
 -- the blocks of a state disk
 abbrev pub state_blocks : ℕ
@@ -97,11 +96,9 @@ kind_number Ind = 1
 kind_number Dep = 2
 kind_number Compact = 3
 
--- the slot of an enabled set fits its kind, and no set is offline or exported yet
-pub record FitsSlot (slot : Slot) (kind : Kind) : Type 0 where
-  pub number : slot.kind ≡ kind_number kind
-  pub online : has_flag offline slot ≡ false
-  pub here : has_flag exported slot ≡ false
+-- whether an enabled set of a kind may have the slot, which no set does that is offline or exported yet
+abbrev pub fits_slot : Slot → Kind → Bool
+fits_slot slot kind = slot.kind == kind_number kind && (not (has_flag offline slot) && not (has_flag exported slot))
 
 -- a set may stand in a group: its slot and its master are there, its disks are there and large enough, its master has a block, and it is one
 -- without slots of its own, which no set is yet
@@ -114,7 +111,7 @@ pub record IsPlaced (slots : List Slot) (volumes : List Seen) (s : SetDisks) : T
   pub some : 0 < size_of volumes s.master
   pub whole : (s.kind ≡ Ind) ⊎ (s.kind ≡ Dep)
   pub plain : s.over ≡ None
-  pub fits : is_live slots s.slot ≡ true → FitsSlot (slot_in slots s.slot) s.kind
+  pub fits : is_live slots s.slot ≡ true → fits_slot (slot_in slots s.slot) s.kind ≡ true
 
 -- the parts of a group keep the rules between them. It has one set at most, and no overflow volume yet. A number has 32 bits
 pub record ArePlaced (slots : List Slot) (parts : PartDisks) : Type 0 where
@@ -144,23 +141,14 @@ pub record AreWhole (parts : PartDisks) : Type 0 where
   pub labelled : All (IsLabelled (kept_on parts.state).slots parts.volumes) parts.sets
   pub settled : All (IsSetSettled (kept_on parts.state).slots parts.volumes) parts.sets
 
--- the first field by which a label is not that of a state disk: its kind, its blocks or its segments
-abbrev pub other_field : Label → Option ℕ
-other_field x = if x.kind == state_label.kind then (if x.blocks == 0 then (if x.segments == 0 then None else Some 4) else Some 3) else Some 2
+-- the label is right, and the block behind it breaks the rule of this field
+pub record IsBadBlock (image : Image) (field : ℕ) : Type 0 where
+  pub label : IsLabel (block_at image 0) state_label
+  pub block : first_broken (group_block_rules (block_at image 1)) ≡ Some field
 
--- the block is a label, but that of another use
-pub record IsOther (block : Block) (field : ℕ) : Type 0 where
-  pub label : Label
-  pub is : IsLabel block label
-  pub differs : other_field label ≡ Some field
-
--- the field by which a block is no label of a state disk
-abbrev pub IsBadLabel : Block → ℕ → Type 0
-IsBadLabel block field = (first_broken (label_rules block) ≡ Some field) ⊎ IsOther block field
-
--- the field by which a state disk is none: of its label, or of its block
+-- the field by which an image is not that of a state disk: of its label, or, where that is right, of its block
 abbrev pub IsBadState : Image → ℕ → Type 0
-IsBadState image field = IsBadLabel (block_at image 0) field ⊎ (first_broken (group_block_rules (block_at image 1)) ≡ Some field)
+IsBadState image field = IsBadLabel (block_at image 0) state_use field ⊎ IsBadBlock image field
 
 -- the image is that of a state disk
 pub record IsGoodState (image : Image) : Type 0 where
@@ -168,25 +156,70 @@ pub record IsGoodState (image : Image) : Type 0 where
   pub label : IsLabel (block_at image 0) state_label
   pub holds : IsGroupBlock (block_at image 1) block
 
+-- a disk is too small for a state disk
+pub record IsSmallState (state : Seen) (field : ℕ) : Type 0 where
+  pub less : state.size < state_blocks
+  pub number : field ≡ between
+
 -- why the state disk was not read
 abbrev pub StateRefused : Seen → Why → Seen → Type 0
 StateRefused old (Size need have) new = ⊥
-StateRefused old (BadRecord field) new = ((old.size < state_blocks) × (field ≡ between)) ⊎ ((state_blocks ≤ old.size) × (IsTold old → IsBadState old.image field × (IsGoodState old.image → ⊥)))
+StateRefused old (BadRecord field) new = IsSmallState old field ⊎ ((state_blocks ≤ old.size) × (IsTold old → IsBadState old.image field × (IsGoodState old.image → ⊥)))
 StateRefused old NoMemory new = ⊥
 StateRefused old Fault new = Rose old.faults new.faults × (old.steady ≡ false)
 
--- the parts break a rule between them: the state disk is too small, they are not placed, or a chunk stands on a shadow alone
-pub record AreAtOdds (parts : PartDisks) (field : ℕ) : Type 0 where
-  pub number : field ≡ between
-  pub broken : (parts.state.size < state_blocks) ⊎ ((ArePlaced (kept_on parts.state).slots parts → ⊥) ⊎ (All (IsSetSettled (kept_on parts.state).slots parts.volumes) parts.sets → ⊥))
+-- The number of the first rule that parts break, in the order in which they are read: the size of the state disk, its label, its
+-- block, the rules between the parts, and then, set by set in order, the label of the bitmap and the states on it. So each of
+-- these cases says that what comes before it is right.
 
--- the bitmap of an enabled set has another label
+-- the disk is large enough, but by this field its image is not that of a state disk
+pub record IsOtherState (state : Seen) (field : ℕ) : Type 0 where
+  pub room : state_blocks ≤ state.size
+  pub bad : IsBadState state.image field
+
+-- it is a state disk
+pub record IsStateDisk (state : Seen) : Type 0 where
+  pub room : state_blocks ≤ state.size
+  pub good : IsGoodState state.image
+
+-- the parts break a rule between them
+pub record AreAtOdds (parts : PartDisks) (field : ℕ) : Type 0 where
+  pub state : IsStateDisk parts.state
+  pub broken : ArePlaced (kept_on parts.state).slots parts → ⊥
+  pub number : field ≡ between
+
+-- the label of a bitmap is right, and by its live area a chunk stands on the shadow alone
+pub record IsUnsettled (bitmap : Seen) (blocks : ℕ) (live_b : Bool) (field : ℕ) : Type 0 where
+  pub label : IsLabel (block_at bitmap.image 0) (shadow_label blocks)
+  pub broken : IsSettledOn bitmap blocks live_b → ⊥
+  pub number : field ≡ between
+
+-- the number by which the bitmap of an enabled set is refused
+abbrev pub IsBadBitmap : Seen → ℕ → Bool → ℕ → Type 0
+IsBadBitmap bitmap blocks live_b field = chunk.IsNotLabel (block_at bitmap.image 0) blocks field ⊎ IsUnsettled bitmap blocks live_b field
+
 pub record IsBadSet (slots : List Slot) (volumes : List Seen) (field : ℕ) (s : SetDisks) : Type 0 where
   pub live : is_live slots s.slot ≡ true
-  pub label : chunk.IsBadLabel (block_at s.bitmap.image 0) (size_of volumes s.master) field
+  pub bitmap : IsBadBitmap s.bitmap (size_of volumes s.master) (has_flag area_b (slot_in slots s.slot)) field
+
+-- the bitmap of a set is not refused
+pub record IsGoodSet (slots : List Slot) (volumes : List Seen) (s : SetDisks) : Type 0 where
+  pub label : IsLabelled slots volumes s
+  pub settled : IsSetSettled slots volumes s
+
+-- the parts keep the rules between them, and the bitmap of one set is refused, but of none before it
+pub record HaveBadSet (parts : PartDisks) (field : ℕ) : Type 0 where
+  pub state : IsStateDisk parts.state
+  pub placed : ArePlaced (kept_on parts.state).slots parts
+  pub before : List SetDisks
+  pub set : SetDisks
+  pub behind : List SetDisks
+  pub order : parts.sets ≡ before ++ set ∷ behind
+  pub good : All (IsGoodSet (kept_on parts.state).slots parts.volumes) before
+  pub bad : IsBadSet (kept_on parts.state).slots parts.volumes field set
 
 abbrev pub AreBad : PartDisks → ℕ → Type 0
-AreBad parts field = AreAtOdds parts field ⊎ (IsBadState parts.state.image field ⊎ Any (IsBadSet (kept_on parts.state).slots parts.volumes field) parts.sets)
+AreBad parts field = IsSmallState parts.state field ⊎ (IsOtherState parts.state field ⊎ (AreAtOdds parts field ⊎ HaveBadSet parts field))
 
 -- a disk, a set and parts without their counts of faults
 abbrev pub no_faults : Seen → Seen
@@ -200,14 +233,25 @@ parts_no_faults parts = record { state = no_faults parts.state; volumes = map no
 
 -- all disks of parts, in order
 abbrev pub disks_in : PartDisks → List Seen
-disks_in parts = parts.state ∷ parts.volumes ++ flat_map set_disks parts.sets ++ parts.overs
-  where
-    shadow_first : Option Seen → Seen → List Seen
-    shadow_first None bitmap = bitmap ∷ []
-    shadow_first (Some shadow) bitmap = shadow ∷ bitmap ∷ []
+disks_in parts = parts.state ∷ parts.volumes ++ flat_map (λ s. both_disks s.shadow s.bitmap) parts.sets ++ parts.overs
 
-    set_disks : SetDisks → List Seen
-    set_disks s = shadow_first s.shadow s.bitmap
+-- the disks of a set as `enable` leaves them: they tell their blocks, the bitmap has the label, and by its first area each
+-- chunk stands on the master alone
+pub record IsMade (volumes : List Seen) (s : SetDisks) : Type 0 where
+  pub told : IsSetTold s
+  pub label : IsLabel (block_at s.bitmap.image 0) (shadow_label (size_of volumes s.master))
+  pub states : (c : ℕ) → c < seg_count (size_of volumes s.master) → state_on (live (chunk.areas_on s.bitmap (size_of volumes s.master) false)) c ≡ on_master
+
+-- a set that is fresh is made on its disks
+pub record StaysMade (volumes : List Seen) (s : HeldSet) : Type 0 where
+  pub made : IsFresh s → IsMade volumes (set_parts s)
+
+-- A pending set as it is found. Nothing is read of its bitmap: its first area is live, and each chunk stands in memory on the
+-- master alone. So it is fresh where it is made on its disks.
+pub record IsFoundPending (volumes : List Seen) (s : HeldSet) : Type 0 where
+  pub area : s.chunks.areas.live_b ≡ false
+  pub memory : (c : ℕ) → c < chunks_of s.chunks → state_of s.chunks c ≡ on_master
+  pub fresh : IsMade volumes (set_parts s) → IsFresh s
 
 -- a group that is found on its parts
 pub record Loads (parts : PartDisks) (new : IiDisks) : Type 0 where
@@ -216,6 +260,8 @@ pub record Loads (parts : PartDisks) (new : IiDisks) : Type 0 where
   pub whole : AreTold parts → AreWhole parts
   pub group : meaning new ≡ meaning_of_parts parts
   pub block : IsTold parts.state → new.block ≡ kept_on parts.state
+  pub holds : IsTold parts.state → HoldsBlock new.state new.block
+  pub pending : All (IsFoundPending parts.volumes) (pending_in new.block.slots new.sets)
   pub sound : AreTold parts → IsSound new
   pub told : AreTold parts → AreTold (parts_of new)
   pub shape : shape_of new ≡ parts_shape parts

@@ -87,7 +87,3 @@ kept_on state = group_block_at (block_at state.image 1)
 -- the group that all disks stand for
 abbrev pub meaning : IiDisks → GroupState
 meaning g = let block = kept_on g.state in group_by block.slots block.note g.volumes g.sets
-
--- the same by the block in memory
-abbrev pub in_memory : IiDisks → GroupState
-in_memory g = group_by g.block.slots g.block.note g.volumes g.sets

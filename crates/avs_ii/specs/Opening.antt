@@ -1,6 +1,5 @@
 -- How one set is opened on its disks, and why not.
-use Rattle.std.specs.Prelude.{◌≡◌, ◌⊎◌, ℕ, ◌^◌, ◌<◌, ◌≤◌, Bool, true, false, not, ◌&&◌, ◌||◌, ◌==◌, nat_lt, if◌then◌else◌, List, [], ◌∷◌, Option, None, Some, is_some}
-use Rattle.avs_seg.specs.Image.{block_at}
+use Rattle.std.specs.Prelude.{◌≡◌, ◌⊎◌, ℕ, ◌^◌, ◌<◌, ◌≤◌, Bool, true, false, not, ◌&&◌, ◌||◌, nat_lt, if◌then◌else◌, List, [], ◌∷◌, length, Option, None, Some, is_some}
 use Rattle.avs_seg.specs.Causes.{Rose}
 use Rattle.avs_dev.specs.Seen.{Seen, IsTold}
 use Rattle.avs_dev.specs.declared.back.Why.{Why}
@@ -9,18 +8,14 @@ use Rattle.avs_code.specs.declared.slot_table.Slot.{Slot}
 use Rattle.avs_model.specs.Shadows.{slot_count}
 use Rattle.avs_model.specs.declared.shadow.Kind.{Kind}
 use Rattle.avs_model.specs.declared.shadow.Kind.TheVariants.{Ind, Dep, Compact}
-use Rattle.avs_chunk.specs.ChunkSet.{ChunkSet, disk_of, IsInStep, HasLabel, shadow_label}
-use Rattle.avs_code.specs.Label.{IsLabel}
-use Rattle.avs_chunk.specs.Making.{Fits, IsSmall, IsBadLabel, areas_on}
-use Rattle.avs_ii.specs.Held.{HeldSet, slot_in, is_live, has_flag, area_b, offline, exported}
+use Rattle.avs_chunk.specs.States.{on_master}
+use Rattle.avs_chunk.specs.ChunkSet.{ChunkSet, disk_of, state_of, chunks_of, IsInStep, HasLabel}
+use Rattle.avs_chunk.specs.Making.{Fits, IsSmall, areas_on}
+use Rattle.avs_ii.specs.Held.{HeldSet, slot_in, is_live, has_flag, area_b}
 use Rattle.avs_ii.specs.SetDisks.{SetDisks}
 use Rattle.avs_ii.specs.Parts.{size_of}
 use Rattle.avs_ii.specs.Saved.{IsSettledInMemory}
-use Rattle.avs_ii.specs.Making.{IsPlaced, IsSettledOn, IsSetSettled, kind_number, between}
-
--- whether an enabled set of a kind may have the slot
-abbrev pub fits_slot : Slot → Kind → Bool
-fits_slot slot kind = slot.kind == kind_number kind && (not (has_flag offline slot) && not (has_flag exported slot))
+use Rattle.avs_ii.specs.Making.{IsPlaced, IsBadBitmap, IsBadSet, fits_slot, between}
 
 -- a set of the kind has no slots of its own
 abbrev pub is_whole : Kind → Bool
@@ -32,6 +27,13 @@ is_whole Compact = false
 abbrev pub is_placed : List Slot → ℕ → SetDisks → Bool
 is_placed slots volumes s =
     nat_lt s.slot slot_count && (nat_lt s.master volumes && (is_whole s.kind && (not (is_some s.over) && (not (is_live slots s.slot) || fits_slot (slot_in slots s.slot) s.kind))))
+
+-- a set may stand among volumes, before its disks are looked at, and its master has so many blocks, one or more
+pub record IsPlacedOn (slots : List Slot) (volumes : List Seen) (s : SetDisks) (blocks : ℕ) : Type 0 where
+  pub placed : is_placed slots (length volumes) s ≡ true
+  pub slot : s.slot < slot_count
+  pub size : blocks ≡ size_of volumes s.master
+  pub some : 0 < blocks
 
 -- a disk that is too small breaks a rule between the parts
 abbrev pub between_parts : Why → Why
@@ -54,14 +56,19 @@ pub record OpensChunks (slots : List Slot) (slot : ℕ) (kind : Kind) (shadow : 
   pub label : is_live slots slot ≡ true → IsTold bitmap → HasLabel new
   pub step : is_live slots slot ≡ true → IsTold bitmap → IsInStep new
   pub settled : IsSettledInMemory new
+  pub pending : is_live slots slot ≡ false → (c : ℕ) → c < chunks_of new → state_of new c ≡ on_master
+
+-- the disks of an enabled set have room for it, and its bitmap is refused
+pub record RefusesBitmap (slots : List Slot) (slot : ℕ) (shadow : Option Seen) (bitmap : Seen) (blocks field : ℕ) : Type 0 where
+  pub live : is_live slots slot ≡ true
+  pub there : shadow ≡ Some (disk_of shadow)
+  pub fits : Fits shadow bitmap blocks
+  pub bad : IsTold bitmap → IsBadBitmap bitmap blocks (has_flag area_b (slot_in slots slot)) field
 
 -- why they are not opened
 abbrev pub ChunksRefused : List Slot → ℕ → Option Seen → Seen → ℕ → Why → Seen → Type 0
 ChunksRefused slots slot shadow bitmap blocks (Size need have) new = IsSmall shadow bitmap blocks need have
-ChunksRefused slots slot shadow bitmap blocks (BadRecord field) new =
-    ((field ≡ between) × (shadow ≡ None))
-    ⊎ (((is_live slots slot ≡ true) × (Fits shadow bitmap blocks × (IsTold bitmap → IsBadLabel (block_at bitmap.image 0) blocks field × (IsLabel (block_at bitmap.image 0) (shadow_label blocks) → ⊥))))
-    ⊎ ((field ≡ between) × ((is_live slots slot ≡ true) × (IsTold bitmap → IsSettledOn bitmap blocks (has_flag area_b (slot_in slots slot)) → ⊥))))
+ChunksRefused slots slot shadow bitmap blocks (BadRecord field) new = ((field ≡ between) × (shadow ≡ None)) ⊎ RefusesBitmap slots slot shadow bitmap blocks field
 ChunksRefused slots slot shadow bitmap blocks NoMemory new = Unit {0}
 ChunksRefused slots slot shadow bitmap blocks Fault new = Rose bitmap.faults new.faults × (bitmap.steady ≡ false)
 
@@ -72,13 +79,11 @@ pub record OpensSet (slots : List Slot) (volumes : List Seen) (s : SetDisks) (ne
   pub master : new.master ≡ s.master
   pub chunks : OpensChunks slots s.slot s.kind s.shadow s.bitmap (size_of volumes s.master) new.chunks
 
--- why a set does not open: it is not placed; its bitmap has another label; or a chunk stands on the shadow alone
+-- why a set does not open: it is not placed; or it is, and its bitmap is refused
 abbrev pub WhyNotOpened : List Slot → List Seen → SetDisks → Why → Seen → Type 0
 WhyNotOpened slots volumes s (Size need have) new = ⊥
 WhyNotOpened slots volumes s (BadRecord field) new =
-    ((field ≡ between) × (IsPlaced slots volumes s → ⊥))
-    ⊎ (((is_live slots s.slot ≡ true) × (IsTold s.bitmap → IsBadLabel (block_at s.bitmap.image 0) (size_of volumes s.master) field × (IsLabel (block_at s.bitmap.image 0) (shadow_label (size_of volumes s.master)) → ⊥)))
-    ⊎ ((field ≡ between) × (IsTold s.bitmap → IsSetSettled slots volumes s → ⊥)))
+    ((field ≡ between) × (IsPlaced slots volumes s → ⊥)) ⊎ (IsPlaced slots volumes s × (IsTold s.bitmap → IsBadSet slots volumes field s))
 WhyNotOpened slots volumes s NoMemory new = Unit {0}
 WhyNotOpened slots volumes s Fault new = Rose s.bitmap.faults new.faults × (s.bitmap.steady ≡ false)
 

@@ -1,17 +1,18 @@
 // A group of volumes and its shadow sets.
-ghost use Rattle.std.specs.Prelude.{◌≡◌, ℕ, ◌+◌, ◌*◌, ◌/◌, ◌<◌, ◌≤◌, IfOk, IfErr, IfSome, IfNone, IsTrue, OnOk, OnErr, All, None, true, false, not, [], map, length, slice_get, slice_set, vec_len, vec_capacity, is_ok, is_some, find, ◌==◌};
+ghost use Rattle.std.specs.Prelude.{◌≡◌, ℕ, ◌+◌, ◌*◌, ◌/◌, ◌<◌, ◌≤◌, IfOk, IfErr, IfSome, IfNone, IsTrue, OnOk, OnErr, All, None, true, false, not, [], map, length, slice_get, slice_set, vec_len, vec_capacity, is_ok, find, ◌==◌};
 ghost use Rattle.std.specs.List.{list_all};
 ghost use Rattle.std.specs.Option.{option_map};
 ghost use Rattle.avs_dev.specs.Below.{IsNoteTold, IsRangeOf, ReadsBelow, WritesBelow};
 ghost use Rattle.avs_model.specs.Shadows.{slot_count, to_copy};
 ghost use Rattle.avs_model.specs.declared.answer.Refusal.TheVariants.{NoMemory};
+ghost use Rattle.avs_chunk.specs.Finding.{left_of, back_of};
 ghost use Rattle.avs_ii.specs.Held.{HeldSet, IiDisks, disks_of, has_flag, is_live, live, pending_in, pending_at, set_at};
 ghost use Rattle.avs_ii.specs.Meaning.{meaning, kept_on};
 ghost use Rattle.avs_ii.specs.Sound.{IsSound};
 ghost use Rattle.avs_ii.specs.Parts.{part_disks, parts_of, set_parts, meaning_of_parts};
-ghost use Rattle.avs_ii.specs.Making.{Opens, OpenRefused, Loads, LoadRefused, AreWhole, AreTold, disks_in};
+ghost use Rattle.avs_ii.specs.Making.{Opens, OpenRefused, Loads, LoadRefused, StaysMade, AreWhole, disks_in, state_blocks};
 ghost use Rattle.avs_ii.specs.Shape.{shape_of, parts_shape};
-ghost use Rattle.avs_ii.specs.AsBelow.{below_of, rest_of, group_of, WroteRest};
+ghost use Rattle.avs_ii.specs.AsBelow.{below_of, rest_of, group_of, AreFindable, WroteRest};
 ghost use Rattle.avs_ii.specs.Opened.{sets_of};
 ghost use Rattle.avs_ii.specs.SetDisks.{set_disks};
 ghost use Rattle.avs_ii.specs.Opening.{AreFew, OpensOne, RefusesOne};
@@ -60,7 +61,7 @@ impl<D: Disk> Model for IiGroup<D> {
 impl<D: Disk> IiGroup<D> {
     /// No volumes and no sets. The label and an empty block are written on the state disk.
     pub fn new(alloc: Global, mut state: D) -> Result<IiGroup<D>, Closed<D>>
-        requires { 64 ≤ (D.seen state).size }
+        requires { state_blocks ≤ (D.seen state).size }
         ensures opens { IfOk result (λ g. Opens (D.seen state) g) }
         ensures refused { IfErr result (λ e. OpenRefused (D.seen state) e.why (D.seen e.parts)) }
     {
@@ -82,8 +83,8 @@ impl<D: Disk> IiGroup<D> {
     }
 
     /// The group that stands on these parts. Its volumes have the numbers of their places. A set whose slot is not live is
-    /// pending, and nothing is read of its bitmap. `BadRecord` names the field of the state disk or of a bitmap's label that
-    /// breaks its rule, and is 64 where a rule between the parts is broken.
+    /// pending, and nothing is read of its bitmap, which is taken to be as `enable` left it. `BadRecord` names the field of the
+    /// state disk or of a bitmap's label that breaks its rule, and is 64 where a rule between the parts is broken.
     pub fn load(alloc: Global, parts: IiParts<D>) -> Result<IiGroup<D>, IiClosed<D>>
         ensures loads { IfOk result (λ g. Loads (part_disks D.seen parts) g) }
         ensures refused { IfErr result (λ e. LoadRefused (part_disks D.seen parts) e.why (part_disks D.seen e.parts)) }
@@ -120,9 +121,11 @@ impl<D: Disk> IiGroup<D> {
         ensures parts { part_disks D.seen result ≡ parts_of self }
         ensures meaning { meaning_of_parts (part_disks D.seen result) ≡ meaning self }
         ensures rest { IsNoteTold (below_of self) → meaning self ≡ record (group_of (rest_of self)) { note = (kept_on self.state).note } }
-        ensures whole { IsSound self → AreTold (part_disks D.seen result) → AreWhole (part_disks D.seen result) }
+        ensures whole { IsSound self → AreWhole (part_disks D.seen result) }
+        ensures found { IsNoteTold (below_of self) → AreFindable (rest_of self) → AreWhole (part_disks D.seen result) }
         ensures disks { disks_in (part_disks D.seen result) ≡ disks_of self }
         ensures shape { parts_shape (part_disks D.seen result) ≡ shape_of self }
+        ensures made { All (StaysMade self.volumes) self.sets }
     {
         let IiGroup {
             state,
@@ -342,7 +345,7 @@ impl<D: Disk> IiGroup<D> {
 
     /// How many chunks of a set are to be copied one way or the other, where the set is there.
     pub fn to_copy(&self, set: u32) -> Option<u32>
-        ensures there { is_some result ≡ is_some (set_at self.now set) }
+        ensures held { result ≡ option_map (λ s. left_of s.chunks + back_of s.chunks) (set_at self.now set) }
         ensures named { IsSound self.now → result ≡ option_map to_copy (find (λ s. s.slot == set) (meaning self.now).sets) }
     {
         if let Some(held) = &self.set {

@@ -1,5 +1,5 @@
 // A set of a group, enabled or pending.
-ghost use Rattle.std.specs.Prelude.{◌≡◌, ◌<◌, ◌≤◌, ◌&&◌, ◌||◌, nat_eq, IfOk, IfErr, IsTrue, not, length, map, Some};
+ghost use Rattle.std.specs.Prelude.{◌≡◌, ◌<◌, ◌≤◌, ◌&&◌, ◌||◌, nat_eq, IfOk, IfErr, IfSome, IfNone, not, map, Some};
 ghost use Rattle.avs_dev.specs.declared.back.Why.TheVariants.{BadRecord};
 ghost use Rattle.avs_ii.specs.Saved.{IsSettledInMemory};
 ghost use Rattle.std.specs.Option.{option_map};
@@ -8,9 +8,9 @@ ghost use Rattle.avs_model.specs.Shadows.{slot_count};
 ghost use Rattle.avs_ii.specs.Held.{has_flag, is_live, slot_in};
 ghost use Rattle.avs_ii.specs.Opened.{held_of};
 ghost use Rattle.avs_ii.specs.SetDisks.{set_disks};
-ghost use Rattle.avs_ii.specs.Parts.{set_parts, size_of};
-ghost use Rattle.avs_ii.specs.Opening.{fits_slot, is_whole, is_placed, between_parts, OpensChunks, ChunksRefused, OpensSet, SetRefused};
-ghost use Rattle.avs_ii.specs.Making.{between, kind_number};
+ghost use Rattle.avs_ii.specs.Parts.{set_parts};
+ghost use Rattle.avs_ii.specs.Opening.{is_whole, is_placed, IsPlacedOn, between_parts, OpensChunks, ChunksRefused, OpensSet, SetRefused};
+ghost use Rattle.avs_ii.specs.Making.{between, fits_slot, kind_number, IsPlaced};
 
 use crate::lists::SetParts;
 use crate::state_disk::BETWEEN;
@@ -117,6 +117,21 @@ fn is_placed<D: Disk>(block: &GroupBlock, volumes: usize, part: &SetParts<D>) ->
         && fits_block(block, part.slot, part.kind)
 }
 
+// How many blocks the master of a set has, where the set may stand in a group with that block and these volumes.
+fn placed_blocks<D: Disk>(block: &GroupBlock, volumes: &[D], part: &SetParts<D>) -> Option<u32>
+    ensures placed { IfSome result (IsPlacedOn block.now.slots (map D.seen volumes.now) (set_disks D.seen part.now)) }
+    ensures odd { IfNone result (IsPlaced block.now.slots (map D.seen volumes.now) (set_disks D.seen part.now) → ⊥) }
+{
+    if !is_placed(block, volumes.len(), part) {
+        return None;
+    }
+    let blocks = volumes[part.master as usize].blocks();
+    if blocks == 0 {
+        return None;
+    }
+    Some(blocks)
+}
+
 // The set on these disks, as large as its master. A pending one is not read.
 pub(crate) fn open<D: Disk>(
     alloc: Global,
@@ -127,19 +142,12 @@ pub(crate) fn open<D: Disk>(
     ensures opens { IfOk result (λ h. OpensSet block.now.slots (map D.seen volumes.now) (set_disks D.seen part) (held_of h)) }
     ensures refused { IfErr result (λ e. SetRefused block.now.slots (map D.seen volumes.now) (set_disks D.seen part) e.why (set_disks D.seen e.parts)) }
 {
-    if !is_placed(block, volumes.len(), &part) {
+    let Some(blocks) = placed_blocks(block, volumes, &part) else {
         return Err(Back {
             parts: part,
             why: Why::BadRecord(BETWEEN),
         });
-    }
-    let blocks = volumes[part.master as usize].blocks();
-    if blocks == 0 {
-        return Err(Back {
-            parts: part,
-            why: Why::BadRecord(BETWEEN),
-        });
-    }
+    };
     let SetParts {
         slot,
         kind,

@@ -3,6 +3,7 @@
 
 mod group;
 mod held;
+mod laws;
 mod lists;
 mod parts;
 mod refusals;
@@ -12,5 +13,6 @@ mod state_disk;
 mod tests;
 
 pub use group::IiGroup;
+pub use laws::sound_is_found;
 pub use lists::{DiskList, SetList, SetParts};
 pub use parts::{IiClosed, IiParts, Returned, Returned2};

@@ -1,14 +1,15 @@
 // The state disk of a group: its label, and the block that tells which sets are enabled and holds the note.
-ghost use Rattle.std.specs.Prelude.{◌≡◌, ◌+◌, ◌*◌, ◌≤◌, ◌∷◌, [], IfOk, IfErr, Some, length};
+ghost use Rattle.std.specs.Prelude.{◌≡◌, ◌+◌, ◌*◌, ◌≤◌, ◌∷◌, [], IfOk, IfErr, length};
 ghost use Rattle.avs_seg.specs.Image.{blocks_of, block_at, put};
 ghost use Rattle.avs_dev.specs.Seen.{IsTold, Writes};
 ghost use Rattle.avs_code.specs.Label.{LabelKeeps, IsLabel, label_block};
 ghost use Rattle.avs_code.specs.GroupBlock.{GroupBlockKeeps, GroupBlockFits, IsGroupBlock, group_block};
-ghost use Rattle.avs_ii.specs.Sound.{HoldsBlock, state_label};
-ghost use Rattle.avs_ii.specs.Making.{empty_block, other_field, Formats, IsBadLabel, IsBadState, IsGoodState, StateRefused};
+ghost use Rattle.avs_ii.specs.Sound.{HoldsBlock, state_label, state_use};
+ghost use Rattle.avs_ii.specs.Making.{empty_block, state_blocks, Formats, IsBadState, IsGoodState, StateRefused};
 
 use avs_code::{
-    BadRecord, GroupBlock, Label, Slots, get_group_block, get_label, put_group_block, put_label,
+    BadRecord, GroupBlock, Label, LabelUse, Slots, get_group_block, get_label_of, put_group_block,
+    put_label,
 };
 use avs_dev::{Disk, Why};
 use avs_seg::{BLOCK, Failed};
@@ -32,6 +33,17 @@ pub(crate) fn empty_block() -> GroupBlock
         sequence: 0,
         slots: Slots::empty(),
         note: [0; 64],
+    }
+}
+
+// What a state disk serves as.
+fn state_use() -> LabelUse
+    ensures { result ≡ state_use }
+{
+    LabelUse {
+        kind: Label::STATE,
+        blocks: 0,
+        segments: 0,
     }
 }
 
@@ -88,7 +100,7 @@ fn first_blocks(block: &GroupBlock) -> [u8; 2 * BLOCK]
 // Writes the label and a block.
 pub(crate) fn format<D: Disk>(state: &mut D, block: &GroupBlock) -> Result<(), Failed>
     requires keeps { GroupBlockKeeps block.now }
-    requires room { 64 ≤ (D.seen state.old).size }
+    requires room { state_blocks ≤ (D.seen state.old).size }
     ensures { Formats (D.seen state.old) block.now result (D.seen state.new) }
 {
     state.write(0, &first_blocks(block))
@@ -97,41 +109,13 @@ pub(crate) fn format<D: Disk>(state: &mut D, block: &GroupBlock) -> Result<(), F
 // Writes a block.
 pub(crate) fn put_block<D: Disk>(state: &mut D, block: &GroupBlock) -> Result<(), Failed>
     requires keeps { GroupBlockKeeps block.now }
-    requires room { 64 ≤ (D.seen state.old).size }
+    requires room { state_blocks ≤ (D.seen state.old).size }
     ensures writes { Writes (D.seen state.old) 1 (group_block block.now) result (D.seen state.new) }
     ensures len { length (group_block block.now) ≡ 512 }
 {
     let mut bytes = [0; BLOCK];
     put_group_block(block, &mut bytes);
     state.write(SLOT_BLOCK, &bytes)
-}
-
-// Refuses a label that is that of another use.
-fn check_label(label: &Label) -> Result<(), BadRecord>
-    ensures ok { IfOk result (λ _. label.now ≡ record state_label { version = label.now.version; stamp = label.now.stamp }) }
-    ensures other { IfErr result (λ e. other_field label.now ≡ Some e.0) }
-{
-    if label.kind != Label::STATE {
-        return Err(BadRecord(2));
-    }
-    if label.blocks != 0 {
-        return Err(BadRecord(3));
-    }
-    if label.segments != 0 {
-        return Err(BadRecord(4));
-    }
-    Ok(())
-}
-
-// Refuses a block that is no label of a state disk.
-fn check_first(block: &[u8; BLOCK]) -> Result<(), BadRecord>
-    ensures label { IfOk result (λ _. IsLabel block.now state_label) }
-    ensures bad { IfErr result (λ e. IsBadLabel block.now e.0 × (IsLabel block.now state_label → ⊥)) }
-{
-    match get_label(block) {
-        Ok(label) => check_label(&label),
-        Err(bad) => Err(bad),
-    }
 }
 
 // The block behind the label of a state disk.
@@ -142,8 +126,8 @@ fn block_of(bytes: &[u8; 2 * BLOCK]) -> Result<GroupBlock, BadRecord>
 {
     let first = block_in(bytes, 0);
     let second = block_in(bytes, 1);
-    match check_first(&first) {
-        Ok(()) => get_group_block(&second),
+    match get_label_of(&first, state_use()) {
+        Ok(_) => get_group_block(&second),
         Err(bad) => Err(bad),
     }
 }
@@ -152,7 +136,7 @@ fn block_of(bytes: &[u8; 2 * BLOCK]) -> Result<GroupBlock, BadRecord>
 pub(crate) fn read_state<D: Disk>(state: &mut D) -> Result<GroupBlock, Why>
     ensures rest { D.seen state.new ≡ record (D.seen state.old) { faults = (D.seen state.new).faults } }
     ensures later { (D.seen state.old).faults ≤ (D.seen state.new).faults }
-    ensures room { IfOk result (λ _. 64 ≤ (D.seen state.old).size) }
+    ensures room { IfOk result (λ _. state_blocks ≤ (D.seen state.old).size) }
     ensures holds { IfOk result (λ block. IsTold (D.seen state.old) → HoldsBlock (D.seen state.old) block) }
     ensures kept { IfOk result (λ block. GroupBlockKeeps block × GroupBlockFits block) }
     ensures refused { IfErr result (λ why. StateRefused (D.seen state.old) why (D.seen state.new)) }

@@ -1,5 +1,6 @@
 // Groups on disks in memory: what stands after each call, after each failing one, and where the group is found again.
 use crate::{IiClosed, IiGroup, IiParts, Returned2, SetList, SetParts};
+use avs_code::{Label, put_label};
 use avs_dev::{Below, Disk, MemDisk, Tear, Why};
 use avs_model::{Kind, Refusal};
 use avs_seg::{BLOCK, Failed};
@@ -613,6 +614,7 @@ fn parts_at_odds(rt: HostRuntime) -> Result<(), Fail> {
         (0, Kind::Dep, 2, 64),
         (0, Kind::Compact, 0, 64),
         (0, Kind::Dep, 1, 3),
+        (0, Kind::Ind, 1, 64),
     ] {
         let parts = parts_as(&rt, alloc, slot, kind, master)?;
         let why = Some(Why::BadRecord(field));
@@ -638,6 +640,47 @@ fn state_disks_that_are_none(rt: HostRuntime) -> Result<(), Fail> {
         } = fresh(&rt, alloc)?.into_parts();
         let parts = IiParts {
             state: disk(alloc, blocks)?,
+            volumes,
+            sets,
+            overs,
+        };
+        let why = Some(Why::BadRecord(field));
+        assert_eq!(rt; why_loaded(IiGroup::load(alloc, parts)), why);
+    }
+    Ok(())
+}
+
+// Of several rules that are broken the earlier one is answered: the label of the state disk is that of another use, its block
+// has none of its bytes, and no set has the slot.
+#[test]
+fn the_earlier_rule_is_answered(rt: HostRuntime) -> Result<(), Fail> {
+    let alloc = rt.alloc();
+    for (blocks, kind, field) in [
+        (63, Label::LANDING, 64),
+        (64, Label::LANDING, 2),
+        (64, Label::STATE, 0),
+    ] {
+        assert!(rt; 0 < kind && kind <= Label::IMPORT_BITMAP);
+        let mut block = [0; BLOCK];
+        let label = Label {
+            version: 1,
+            kind,
+            blocks: 0,
+            segments: 0,
+            stamp: 0,
+        };
+        put_label(&label, &mut block);
+        let mut state = disk(alloc, blocks)?;
+        assert!(rt; state.blocks() > 0);
+        state.write(0, &block)?;
+        let IiParts {
+            volumes,
+            sets,
+            overs,
+            ..
+        } = parts_as(&rt, alloc, 16, Kind::Dep, 0)?;
+        let parts = IiParts {
+            state,
             volumes,
             sets,
             overs,

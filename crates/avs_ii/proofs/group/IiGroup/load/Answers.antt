@@ -6,7 +6,7 @@ use Rattle.avs_ii.specs.Parts.{PartDisks, part_disks}
 use Rattle.avs_ii.specs.Making.{Loads}
 use Rattle.avs_ii.specs.Opening.{OpensOne, RefusesOne}
 use Rattle.avs_ii.proofs.Making.{the_group}
-use Rattle.avs_ii.proofs.Loading.{the_disks, IsRead, finish_refused, few_seen, few_back, nil_of, read_refused, odd_refused, take_refused, loads_one, kept_one}
+use Rattle.avs_ii.proofs.Loading.{the_disks, IsRead, finish_refused, few_seen, few_back, nil_of, read_refused, odd_refused, disk_read, take_refused, loads_one, kept_one}
 use Rattle.avs_ii.proofs.group.IiGroup.load.Goals as goal
 
 pub returns-in-Err-clause-refused : goal.returns-in-Err-clause-refused
@@ -38,9 +38,10 @@ returns-then-not-are_few-clause-refused g c =
     let S = map disks room in
     let O = map seen overs in
     let base : the_disks st V S O ≡ part_disks seen c.args.parts = λ i. record { state = st; volumes = c.into_vec-volumes.ensures i; sets = c.into_vec-room.ensures i; overs = c.into_vec-overs.ensures i } in
+    let read : IsRead st c.in-Ok.block st' = record { rest = c.read_state.ensures.rest; later = c.read_state.ensures.later; room = c.in-Ok.ensures.room; holds = c.in-Ok.ensures.holds; keeps = c.in-Ok.ensures.kept.0; fits = c.in-Ok.ensures.kept.1 } in
     let many = c.are_few.ensures.many (ap (λ (b : Bool). not b) c.if-not-are_few.true) in
     finish_refused (the_disks st V S O) (part_disks seen c.args.parts) (the_disks st' V S O) (part_disks seen c.closed-then-not-are_few.result.parts) _ c.closed-then-not-are_few.result.why base c.closed-then-not-are_few.ensures.parts c.closed-then-not-are_few.ensures.why
-    (odd_refused st st' V S O c.read_state.ensures.rest c.read_state.ensures.later (λ few. many (few_back seen disks c.deref.result.now vols c.deref-2.result.now room c.deref-3.result.now overs c.deref.ensures.value c.deref-2.ensures.value c.deref-3.ensures.value few)))
+    (odd_refused st st' V S O c.read_state.ensures.rest c.read_state.ensures.later (disk_read st st' c.in-Ok.block read) (λ few. many (few_back seen disks c.deref.result.now vols c.deref-2.result.now room c.deref-3.result.now overs c.deref.ensures.value c.deref-2.ensures.value c.deref-3.ensures.value few)))
 
 pub invariant_of-result : goal.invariant_of-result
 invariant_of-result g c =
@@ -108,4 +109,4 @@ returns-in-Err-take_set-clause-refused g c =
     (sym (ap (λ (o : List Seen). the_disks st V S o) nil) ∙ base)
     (c.closed-in-Err-take_set.ensures.parts ∙ ap (λ (o : List Seen). the_disks st' V left o) nil)
     c.closed-in-Err-take_set.ensures.why
-    (take_refused st st' c.in-Ok.block V read S left c.in-Err-take_set.why few.one refused)
+    (take_refused st st' c.in-Ok.block V read few.count S left c.in-Err-take_set.why few.one refused)

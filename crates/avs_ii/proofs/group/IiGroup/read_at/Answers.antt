@@ -3,7 +3,7 @@ use Rattle.std.proofs.lemmas.List.{length-map}
 use Rattle.avs_ii.specs.Opened.{sets_of}
 use Rattle.avs_ii.proofs.Making.{at_most_one}
 use Rattle.avs_ii.proofs.Volumes.{read_exit}
-use Rattle.avs_ii.proofs.Views.{write_range, write_inside, read_keeps, read_below, read_rest, read_kept}
+use Rattle.avs_ii.proofs.Views.{write_range, write_inside, read_keeps, read_below, read_rest, read_same, read_kept}
 use Rattle.avs_ii.proofs.group.IiGroup.read_at.Goals as goal
 
 pub read-requires : goal.read-requires
@@ -35,3 +35,4 @@ returns-clause-volume g c =
     (read_keeps g.D.Disk.seen (g.D.Disk.seen i.state) i.block i.volumes.items i.set c.args.self.now c.self.view_is c.args.volume c.index_mut.result.now c.index_mut.ensures.value c.args.at c.args.out.now c.requires c.read.result c.read.new.self c.read.new.out c.read.ensures c.self.invariant.0)
     (read_below g.D.Disk.seen (g.D.Disk.seen i.state) i.block i.volumes.items i.set c.args.self.now c.self.view_is c.args.volume c.index_mut.result.now c.index_mut.ensures.value c.args.at c.args.out.now c.requires c.read.result c.read.new.self c.read.new.out c.read.ensures)
     (read_rest g.D.Disk.seen (g.D.Disk.seen i.state) i.block i.volumes.items i.set c.args.self.now c.self.view_is c.args.volume c.index_mut.result.now c.index_mut.ensures.value c.args.at c.args.out.now c.requires c.read.result c.read.new.self c.read.new.out c.read.ensures)
+    (read_same g.D.Disk.seen (g.D.Disk.seen i.state) i.block i.volumes.items i.set c.args.self.now c.self.view_is c.args.volume c.index_mut.result.now c.index_mut.ensures.value c.args.at c.args.out.now c.requires c.read.result c.read.new.self c.read.new.out c.read.ensures)
