@@ -31,13 +31,13 @@ use Rattle.avs_world.specs.declared.place.Place.{Place}
 use Rattle.avs_world.specs.declared.place.Place.TheVariants.{Here, Lent, Spent}
 use Rattle.avs_world.specs.Arming.{ArmsBy, ArmsHere, ArmsLent, ArmsTarget, ArmsView, is_group}
 use Rattle.avs_world.specs.Causes.{ArmsAsDisk, number_of, open_disks, role_disk, target_disk}
-use Rattle.avs_world.specs.Holds.{AreGroups, Holds, HoldsBy, HoldsSet, IsOpen, IsPhase, IsStateDisk, Shown, expected, group_with, shown, shown_with}
+use Rattle.avs_world.specs.Holds.{AreGroups, Holds, HoldsBy, HoldsSet, IsOpen, IsPhase, IsStateDisk, Shown, disks_made, expected, group_with, shown, shown_with}
 use Rattle.avs_world.specs.Places.{ArmsPlace, places_with, with_disk}
 use Rattle.avs_world.specs.Ranges.{disk_here, role_by, role_in}
 use Rattle.avs_world.specs.Views.{FourDisks, GroupView, NoGroup, FreeDisk, InMemory, OnDisks, StoreView, one_set, place_view}
-use Rattle.avs_world.proofs.Holding.{element, found_plain, holds_changed, holds_plain, not_lent, set_back, three_volumes, volume_named}
-use Rattle.avs_world.proofs.OneSet.{at_bitmap, at_master, at_shadow}
-use Rattle.avs_world.proofs.Tears.{IsFour, Marks, bitmap_marked, enabled_same, four, four_after, four_list, master_marked, open_groups, open_holds, open_shows, shadow_marked}
+use Rattle.avs_world.proofs.Holding.{element, found_plain, holds_changed, holds_plain, not_lent, open_groups, open_shows, set_back, set_holds, three_volumes, volume_named}
+use Rattle.avs_world.proofs.OneSet.{IsOneSet, one_held, at_bitmap, at_master, at_shadow}
+use Rattle.avs_world.proofs.Tears.{Marks, StaysOne, bitmap_marked, enabled_same, four, four_list, master_marked, parts_one, shadow_marked, stays_one}
 
 -- ---- the refusals of arming
 
@@ -51,11 +51,47 @@ module _ (s : State) (skip first count : ℕ) (up : s.p.up ≡ true) where
   pub arm_volume_passes : (name : List ℕ) (v : VolumeState) → volume_of s.p name ≡ Some v → refusal s (Arm P (disk.Volume name) skip first count) ≡ None
   arm_volume_passes name v there = arm_behind (disk.Volume name) ∙ ap (λ (o : Option VolumeState). cond (not (is_some o)) (Some NoVolume) None) there
 
-  pub arm_no_group : (name : List ℕ) → group_of s.p name ≡ None → refusal s (Arm P (disk.StateOf name) skip first count) ≡ Some NoGroup
-  arm_no_group name none = arm_behind (disk.StateOf name) ∙ ap (λ (o : Option ℕ). cond (not (is_some o)) (Some NoGroup) None) none
-
   pub arm_group_passes : (name : List ℕ) (k : ℕ) → group_of s.p name ≡ Some k → refusal s (Arm P (disk.StateOf name) skip first count) ≡ None
   arm_group_passes name k there = arm_behind (disk.StateOf name) ∙ ap (λ (o : Option ℕ). cond (not (is_some o)) (Some NoGroup) None) there
+
+-- ---- where none is armed all stays
+
+place_same : (places new : List (Place Seen)) (k : ℕ) → k < length places → ArmsPlace (disk_here (slice_get places k)) places k false new → new ≡ places
+place_same places new k lt arms = by (element places k lt).0 (element places k lt).1
+  where
+    arms_at : (p : Place Seen) → slice_get places k ≡ Some p → ArmsPlace (disk_here (Some p)) places k false new
+    arms_at p here = subst (λ (o : Option (Place Seen)). ArmsPlace (disk_here o) places k false new) here arms
+
+    same : (p : Place Seen) (d d' : Seen) → slice_get places k ≡ Some p → new ≡ places_with places k d' → d' ≡ d → with_disk p d ≡ p → new ≡ places
+    same p d d' here is kept back =
+        is ∙ (λ i. slice_set places k (with_disk (get_or_from_slice_get places k p Lent here i) (kept i))) ∙ ap (slice_set places k) back ∙ set_back places k p here
+
+    by : (p : Place Seen) → slice_get places k ≡ Some p → new ≡ places
+    by (Here d) here = let a = arms_at (Here d) here in same (Here d) d a.0 here a.2 (a.1.unarmed refl) refl
+    by (Spent d) here = let a = arms_at (Spent d) here in same (Spent d) d a.0 here a.2 (a.1.unarmed refl) refl
+    by Lent here = (arms_at Lent here).1
+
+view_same : (group group' : GroupView) (number : ℕ) → ArmsView group number false group' → group' ≡ group
+view_same NoGroup group' number arms = arms.1
+view_same (FreeDisk d) group' number arms = arms.1
+view_same (OnDisks set parts) group' number arms = arms.1
+view_same (InMemory set held) group' number arms = arms.2 ∙ ap (InMemory set) (arms.1.unarmed refl)
+
+here_same : (old new : StoreView) (k : ℕ) → k < length old.places → ArmsHere old k false new → new ≡ old
+here_same old new k lt arms = arms.is ∙ ap (λ (l : List (Place Seen)). record old { places = l }) (place_same old.places new.places k lt arms.arms)
+
+lent_same : (old new : StoreView) (number : ℕ) → ArmsLent old number false new → new ≡ old
+lent_same old new number arms = arms.is ∙ ap (λ (g : GroupView). record old { group = g }) (view_same old.group new.group number arms.arms)
+
+role_same : (r : Role) (old new : StoreView) (k : ℕ) → k < length old.places → ArmsBy r old k false new → new ≡ old
+role_same Plain old new k lt arms = here_same old new k lt arms
+role_same Master old new k lt arms = lent_same old new 1 arms
+role_same Shadow old new k lt arms = lent_same old new 2 arms
+role_same Bitmap old new k lt arms = lent_same old new 3 arms
+
+pub target_same : (old new : StoreView) (target : ArmTarget) → ArmsTarget old target false new → new ≡ old
+target_same old new (disk.Volume name) arms = role_same (role_by old.group arms.0) old new arms.0 arms.2 arms.3
+target_same old new (disk.StateOf name) arms = lent_same old new 0 arms.1
 
 -- ---- the group of a name
 
@@ -84,27 +120,6 @@ group_there host name group is same =
     by true so = refl
     by false so = cc
 
-group_absent : (host : HostState) (name : List ℕ) (group : ShadowGroup) → host.groups ≡ group ∷ [] → bytes_eq name group.name ≡ false → group_of host name ≡ None
-group_absent host name group is other =
-    ap (position (λ (held : ShadowGroup). bytes_eq name held.name)) is ∙ by (bytes_eq name group.name) other
-  where
-    by : (b : Bool) → b ≡ false → cond (nat_lt (cond (not b) (1 + 0) 0) 1) (Some (cond (not b) (1 + 0) 0)) None ≡ None
-    by false so = refl
-    by true so = cc
-
--- a name that is not that of the group in memory is no group's
-no_group_by : (steady : Bool) (names : List (List ℕ)) (places : List (Place Seen)) (group : GroupView) (host : HostState) (name : List ℕ) → HoldsBy steady names places group host.volumes host.groups → IsPhase true group
-    → is_group group name ≡ false → group_of host name ≡ None
-no_group_by steady names places NoGroup host name by phase other = ap (position (λ (held : ShadowGroup). bytes_eq name held.name)) by.1
-no_group_by steady names places (FreeDisk d) host name by phase other = ap (position (λ (held : ShadowGroup). bytes_eq name held.name)) by.1.0
-no_group_by steady names places (InMemory set held) host name by phase other =
-    let are = open_groups steady names places set held host.volumes host.groups by.0 by.1 in
-    group_absent host name (group_with names set (meaning held) are.0) are.1 (same_either name set.name ∙ other)
-no_group_by steady names places (OnDisks set parts) host name by phase other = absurd (false≢true (sym phase))
-
-pub no_group : (steady : Bool) (store : StoreView) (state : State) (name : List ℕ) → Holds steady store state → IsPhase true store.group → is_group store.group name ≡ false → group_of state.p name ≡ None
-no_group steady store state name holds phase other = no_group_by steady store.names store.places store.group state.p name holds.by phase other
-
 -- ---- one of the four disks is armed
 
 abbrev of_list : List Seen → Seen → FourDisks
@@ -115,13 +130,19 @@ armed d = record d { armed = true }
 
 -- the disks of the group, of which that with a number is armed
 module _ (set : ShadowSet) (old new : IiDisks) (number : ℕ) (disks : FourDisks) (is : parts_of old ≡ one_set set.slot disks) (arms : ArmsGroup old number true new) where
-  pub after : IsFour new set.slot
-  after = four_after old new set.slot disks arms.shape is
+  abbrev had : IsOneSet set disks old
+  had = one_held set disks old is
+
+  pub after : StaysOne disks set had.one.chunks.blocks new
+  after = stays_one set old disks new had arms.shape
+
+  pub parts_after : parts_of new ≡ one_set set.slot after.disks
+  parts_after = parts_one set after.disks new after.one
 
   list : four after.disks ≡ slice_set (four disks) number (armed (slice_index_or (four disks) number disks.state))
   list =
       let before = four_list old set.slot disks is in
-      sym (four_list new set.slot after.disks after.is) ∙ arms.armed refl
+      sym (four_list new set.slot after.disks parts_after) ∙ arms.armed refl
       ∙ (λ i. slice_set (before i) number (armed (slice_index_or (before i) number (ap (λ p. p.state) is i))))
 
   pub armed_disks : after.disks ≡ of_list (slice_set (four disks) number (armed (slice_index_or (four disks) number disks.state))) disks.state
@@ -133,7 +154,7 @@ module _ (set : ShadowSet) (old new : IiDisks) (number : ℕ) (disks : FourDisks
     sound = arms.sound opened.sound;
     told = arms.told opened.told;
     in_memory = ap (λ b. is_live b.slots set.slot) arms.block ∙ opened.in_memory;
-    on_disk = enabled_same set old new (ap (λ p. p.state.image) after.is ∙ same ∙ sym (ap (λ p. p.state.image) is)) ∙ opened.on_disk;
+    on_disk = enabled_same set old new (ap (λ p. p.state.image) parts_after ∙ same ∙ sym (ap (λ p. p.state.image) is)) ∙ opened.on_disk;
   }
 
 -- the disk is marked
@@ -160,7 +181,7 @@ module _ (steady : Bool) (names : List (List ℕ)) (places : List (Place Seen)) 
   held_by number arms now is image state_disk volumes groups shows_now are_now =
       let opened = still_open set old new number disks by.1.is arms (ap (λ (d : FourDisks). d.state.image) is ∙ image) by.0 in (
         opened,
-        open_holds steady names places set new volumes groups now opened ((after set old new number disks by.1.is arms).is ∙ ap (one_set set.slot) is) by.1.set_of state_disk shows_now
+        set_holds steady names places set (parts_of new) now true (meaning new) volumes groups (parts_after set old new number disks by.1.is arms ∙ ap (one_set set.slot) is) by.1.set_of state_disk opened.on_disk shows_now
             (subst (λ (g : GroupState). AreGroups steady names set g now.state true groups) (sym arms.group) are_now),
       )
 
@@ -236,6 +257,13 @@ are_sure {D} seen law items = record {
     by (Some (Spent disk)) d is = subst (λ (x : Seen). IsTrue x.steady → IsTrue x.arms) (same_Some (seen disk) d is) (law disk)
     by (Some Lent) d is = cc
 
+-- there are as many state disks
+made_armed : (group group' : GroupView) (n : ℕ) (result : Bool) → ArmsView group n result group' → disks_made group' ≡ disks_made group
+made_armed NoGroup group' n result arms = ap disks_made arms.1
+made_armed (FreeDisk d) group' n result arms = ap disks_made arms.1
+made_armed (InMemory set held) group' n result arms = ap disks_made arms.2
+made_armed (OnDisks set parts) group' n result arms = ap disks_made arms.1
+
 module _ (steady : Bool) (old new : StoreView) (s : State) (holds : Holds steady old s) (phase : IsPhase true old.group) where
   module _ (name : List ℕ) (k : ℕ) (sought : position (bytes_eq name) old.names ≡ Some k) where
     abbrev next : State
@@ -260,15 +288,12 @@ module _ (steady : Bool) (old new : StoreView) (s : State) (holds : Holds steady
           ap (λ (x : Seen). shown (p x)) (arms.armed refl) ∙ shows d ∙ (λ i. record (f.is i) { armed = (f.is i).steady && true }) in
           subst (λ (store : StoreView). Holds steady store next) (sym (is ∙ ap (λ (l : List (Place Seen)). record old { places = l }) places))
           (holds_plain steady old s next k (p d') f.volume (record f.volume { armed = true }) holds serves f.there
-          (with_volume_of-place s.p.volumes name (λ w. record w { armed = true }) k f.volume f.here f.there) refl refl refl refl now)
+          (with_volume_of-place s.p.volumes name (λ w. record w { armed = true }) k f.volume f.here f.there) refl refl refl refl refl now)
 
-      here_unarmed : AreSure old.places → (d' : Seen) → Arms d false d' → new.places ≡ slice_set old.places k (p d') → new ≡ record old { places = new.places } → disk_here (Some (p d)) ≡ Some d → (shown (p d)).steady ≡ d.steady
-          → (new ≡ old) × (steady ≡ false)
-      here_unarmed are_sure d' arms places is own own_steady =
+      here_unarmed : AreSure old.places → (d' : Seen) → Arms d false d' → disk_here (Some (p d)) ≡ Some d → (shown (p d)).steady ≡ d.steady → steady ≡ false
+      here_unarmed are_sure d' arms own own_steady =
           let f = found_plain steady old s name k (p d) holds serves sought here in
-          let back : new.places ≡ old.places = places ∙ ap (λ (x : Seen). slice_set old.places k (p x)) (arms.unarmed refl) ∙ set_back old.places k (p d) here in
-          let not_steady : steady ≡ true → ⊥ = λ so. false≢true (arms.answer ∙ are_sure.sure k d (ap disk_here here ∙ own) (sym own_steady ∙ ap (λ (x : Shown). x.steady) f.is ∙ so)) in
-          (is ∙ ap (λ (l : List (Place Seen)). record old { places = l }) back, is_false steady not_steady)
+          is_false steady (λ so. false≢true (arms.answer ∙ are_sure.sure k d (ap disk_here here ∙ own) (sym own_steady ∙ ap (λ (x : Shown). x.steady) f.is ∙ so)))
 
     -- the place of a volume that serves as nothing
     by_place : (result : Bool) (p : Place Seen) → slice_get old.places k ≡ Some p → ArmsHere old k result new → ArmsPlace (disk_here (Some p)) old.places k result new.places
@@ -285,12 +310,12 @@ module _ (steady : Bool) (old new : StoreView) (s : State) (holds : Holds steady
         by (Spent d) here = let a = by_place true (Spent d) here arms in here_armed d (λ x. Spent x) (λ x. refl) here serves a.0 a.1 (put_at (Spent d) a.0 here a.2) arms.is
         by Lent here = let a = by_place true Lent here arms in absurd (false≢true (sym a.0))
 
-    plain_unarmed : AreSure old.places → k < length old.places → role_by old.group k ≡ Plain → ArmsHere old k false new → (new ≡ old) × (steady ≡ false)
+    plain_unarmed : AreSure old.places → k < length old.places → role_by old.group k ≡ Plain → ArmsHere old k false new → steady ≡ false
     plain_unarmed sure lt serves arms = by (element old.places k lt).0 (element old.places k lt).1
       where
-        by : (p : Place Seen) → slice_get old.places k ≡ Some p → (new ≡ old) × (steady ≡ false)
-        by (Here d) here = let a = by_place false (Here d) here arms in here_unarmed d (λ x. Here x) (λ x. refl) here serves sure a.0 a.1 (put_at (Here d) a.0 here a.2) arms.is refl refl
-        by (Spent d) here = let a = by_place false (Spent d) here arms in here_unarmed d (λ x. Spent x) (λ x. refl) here serves sure a.0 a.1 (put_at (Spent d) a.0 here a.2) arms.is refl refl
+        by : (p : Place Seen) → slice_get old.places k ≡ Some p → steady ≡ false
+        by (Here d) here = let a = by_place false (Here d) here arms in here_unarmed d (λ x. Here x) (λ x. refl) here serves sure a.0 a.1 refl refl
+        by (Spent d) here = let a = by_place false (Spent d) here arms in here_unarmed d (λ x. Spent x) (λ x. refl) here serves sure a.0 a.1 refl refl
         by Lent here = let f = found_plain steady old s name k Lent holds serves sought here in absurd (not_lent steady f.volume f.is)
 
     -- one whose disk the group has
@@ -303,28 +328,23 @@ module _ (steady : Bool) (old new : StoreView) (s : State) (holds : Holds steady
         subst (λ (g : GroupView). HoldsBy steady old.names old.places g next.p.volumes next.p.groups × IsPhase true g) (sym arms.2)
         (role_armed steady old.names old.places s.p holds.same_names set held arms.0 by name k sought r serves differs arms.1, refl)
 
-    lent_unarmed : (r : Role) (group group' : GroupView) → HoldsBy steady old.names old.places group s.p.volumes s.p.groups → IsPhase true group → ArmsView group (number_of r) false group' → role_by group k ≡ r → r ≢ Plain
-        → (group' ≡ group) × (steady ≡ false)
+    lent_unarmed : (r : Role) (group group' : GroupView) → HoldsBy steady old.names old.places group s.p.volumes s.p.groups → IsPhase true group → ArmsView group (number_of r) false group' → role_by group k ≡ r → r ≢ Plain → steady ≡ false
     lent_unarmed r NoGroup group' by up arms serves differs = absurd (differs (sym serves))
     lent_unarmed r (FreeDisk d) group' by up arms serves differs = absurd (differs (sym serves))
     lent_unarmed r (OnDisks set parts) group' by up arms serves differs = absurd (false≢true (sym up))
-    lent_unarmed r (InMemory set held) group' by up arms serves differs = (
-      arms.2 ∙ ap (InMemory set) (arms.1.unarmed refl),
-      is_false steady (role_unarmed steady old.names old.places s.p holds.same_names set held arms.0 by name k sought r serves differs arms.1),
-    )
+    lent_unarmed r (InMemory set held) group' by up arms serves differs =
+        is_false steady (role_unarmed steady old.names old.places s.p holds.same_names set held arms.0 by name k sought r serves differs arms.1)
 
     lent_holds : (r : Role) → role_by old.group k ≡ r → r ≢ Plain → ArmsLent old (number_of r) true new → Holds steady new next × IsPhase true new.group
     lent_holds r serves differs arms =
         let by = lent_armed r old.group new.group holds.by arms.arms serves differs in (
           subst (λ (store : StoreView). Holds steady store next) (sym arms.is)
-              (holds_changed s.p.volumes k v (record v { armed = true }) there steady old s next old.places new.group holds refl changed refl refl refl by.0),
+              (holds_changed s.p.volumes k v (record v { armed = true }) there steady old s next old.places new.group holds refl changed refl refl refl (made_armed old.group new.group (number_of r) true arms.arms ∙ holds.same_disks) by.0),
           by.1,
         )
 
-    lent_none : (r : Role) → role_by old.group k ≡ r → r ≢ Plain → ArmsLent old (number_of r) false new → (new ≡ old) × (steady ≡ false)
-    lent_none r serves differs arms =
-        let by = lent_unarmed r old.group new.group holds.by phase arms.arms serves differs in
-        (arms.is ∙ ap (λ (g : GroupView). record old { group = g }) by.0, by.1)
+    lent_none : (r : Role) → role_by old.group k ≡ r → r ≢ Plain → ArmsLent old (number_of r) false new → steady ≡ false
+    lent_none r serves differs arms = lent_unarmed r old.group new.group holds.by phase arms.arms serves differs
 
     -- by what it serves as
     volume_armed : (r : Role) → role_by old.group k ≡ r → k < length old.places → ArmsBy r old k true new → Holds steady new next × IsPhase true new.group
@@ -333,7 +353,7 @@ module _ (steady : Bool) (old new : StoreView) (s : State) (holds : Holds steady
     volume_armed Shadow serves lt arms = lent_holds Shadow serves (λ e. cc) arms
     volume_armed Bitmap serves lt arms = lent_holds Bitmap serves (λ e. cc) arms
 
-    volume_unarmed : AreSure old.places → (r : Role) → role_by old.group k ≡ r → k < length old.places → ArmsBy r old k false new → (new ≡ old) × (steady ≡ false)
+    volume_unarmed : AreSure old.places → (r : Role) → role_by old.group k ≡ r → k < length old.places → ArmsBy r old k false new → steady ≡ false
     volume_unarmed sure Plain serves lt arms = plain_unarmed sure lt serves arms
     volume_unarmed sure Master serves lt arms = lent_none Master serves (λ e. cc) arms
     volume_unarmed sure Shadow serves lt arms = lent_none Shadow serves (λ e. cc) arms
@@ -353,12 +373,11 @@ module _ (steady : Bool) (old new : StoreView) (s : State) (holds : Holds steady
         subst (λ (g : GroupView). HoldsBy steady old.names old.places g then.p.volumes then.p.groups × IsPhase true g) (sym arms.2)
         (state_armed steady old.names old.places s.p holds.same_names set held arms.0 by name named arms.1, refl)
 
-    group_unarmed : (group group' : GroupView) → HoldsBy steady old.names old.places group s.p.volumes s.p.groups → is_group group name ≡ true → ArmsView group 0 false group' → (group' ≡ group) × (steady ≡ false)
+    group_unarmed : (group group' : GroupView) → HoldsBy steady old.names old.places group s.p.volumes s.p.groups → is_group group name ≡ true → ArmsView group 0 false group' → steady ≡ false
     group_unarmed NoGroup group' by named arms = absurd (false≢true named)
     group_unarmed (FreeDisk d) group' by named arms = absurd (false≢true named)
     group_unarmed (OnDisks set parts) group' by named arms = absurd (false≢true named)
-    group_unarmed (InMemory set held) group' by named arms =
-        (arms.2 ∙ ap (InMemory set) (arms.1.unarmed refl), is_false steady (state_unarmed steady old.names old.places s.p holds.same_names set held arms.0 by arms.1))
+    group_unarmed (InMemory set held) group' by named arms = is_false steady (state_unarmed steady old.names old.places s.p holds.same_names set held arms.0 by arms.1)
 
     -- it is the first
     named_there : (group : GroupView) → HoldsBy steady old.names old.places group s.p.volumes s.p.groups → is_group group name ≡ true → group_of s.p name ≡ Some 0
@@ -373,14 +392,12 @@ module _ (steady : Bool) (old new : StoreView) (s : State) (holds : Holds steady
     state_holds named arms =
         let by = group_armed old.group new.group holds.by named arms.arms in (
           subst (λ (store : StoreView). Holds steady store then) (sym arms.is)
-              (record { same_names = holds.same_names; same_blocks = holds.same_blocks; no_other = holds.no_other; by = by.0 }),
+              (record { same_names = holds.same_names; same_blocks = holds.same_blocks; no_other = holds.no_other; same_disks = made_armed old.group new.group 0 true arms.arms ∙ holds.same_disks; by = by.0 }),
           by.1,
         )
 
-    state_none : is_group old.group name ≡ true → ArmsLent old 0 false new → (new ≡ old) × (steady ≡ false)
-    state_none named arms =
-        let by = group_unarmed old.group new.group holds.by named arms.arms in
-        (arms.is ∙ ap (λ (g : GroupView). record old { group = g }) by.0, by.1)
+    state_none : is_group old.group name ≡ true → ArmsLent old 0 false new → steady ≡ false
+    state_none named arms = group_unarmed old.group new.group holds.by named arms.arms
 
   -- a tear was armed
   pub target_armed : (target : ArmTarget) → ArmsTarget old target true new → Holds steady new (with_armed s P (disk_place s.p target) true) × IsPhase true new.group
@@ -388,7 +405,7 @@ module _ (steady : Bool) (old new : StoreView) (s : State) (holds : Holds steady
   target_armed (disk.StateOf name) arms = state_holds name arms.0 arms.1
 
   -- the disk lets none be armed
-  pub target_unarmed : AreSure old.places → (target : ArmTarget) → ArmsTarget old target false new → (new ≡ old) × (steady ≡ false)
+  pub target_unarmed : AreSure old.places → (target : ArmTarget) → ArmsTarget old target false new → steady ≡ false
   target_unarmed sure (disk.Volume name) arms = volume_unarmed name arms.0 arms.1 sure (role_by old.group arms.0) refl arms.2 arms.3
   target_unarmed sure (disk.StateOf name) arms = state_none name arms.0 arms.1
 

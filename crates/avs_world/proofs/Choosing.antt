@@ -1,14 +1,14 @@
 -- Which refusal of enabling a set is the first, by what a world finds.
-use Rattle.std.proofs.Common.{◌≡◌, ◌⊎◌, ℕ, ◌<◌, ◌≤◌, Bool, true, false, not, ◌==◌, ◌||◌, Option, Some, None, List, [], ◌∷◌, ◌++◌, length, map, refl, sym, ◌∙◌, ap, subst, inl, inr, arith}
+use Rattle.std.proofs.Common.{◌≡◌, ◌⊎◌, ℕ, ◌+◌, ◌<◌, ◌≤◌, Bool, true, false, not, ◌==◌, ◌||◌, Some, None, List, [], ◌∷◌, ◌++◌, length, refl, sym, ◌∙◌, ap, subst, inl, inr, arith}
 use Rattle.std.specs.Prelude.{◌&&◌, nat_lt, if◌then◌else◌}
 use Rattle.std.specs.List.{sum_by, slice_get, position}
-use Rattle.std.specs.Option.{is_some, option_map_or}
+use Rattle.std.specs.Option.{is_some}
 use Rattle.std.specs.Str.{bytes_eq}
 use Rattle.std.proofs.Math.Bool.{or_assoc}
-use Rattle.std.proofs.lemmas.Bool.{false≢true, cases_Bool, cond-true, cond-false, ltb-true, ltb-false, eqb-false}
+use Rattle.std.proofs.lemmas.Bool.{false≢true, cases_Bool, cond-true, cond-false, ltb-true, ltb-false, eqb-false, not-false}
 use Rattle.avs_dev.specs.Seen.{Seen}
 use Rattle.avs_model.specs.Limits.{bitmap_blocks, most_sets}
-use Rattle.avs_model.specs.State.{State, HostState, VolumeState, ShadowGroup, Use, volume_of, size_of, is_spent, use_of, role_of}
+use Rattle.avs_model.specs.State.{State, HostState, VolumeState, ShadowGroup, Use, volume_of, size_of, is_spent, use_of, role_of, are_disks_used}
 use Rattle.avs_model.specs.State as state
 use Rattle.avs_model.specs.Refusals.{enable_causes, first_cause, may_be_master, is_alone, sets_on}
 use Rattle.avs_model.specs.declared.answer.Role.{Role}
@@ -19,16 +19,15 @@ use Rattle.avs_world.specs.declared.place.Place.{Place}
 use Rattle.avs_world.specs.declared.place.Place.TheVariants.{Here, Spent, Lent}
 use Rattle.avs_world.specs.declared.ranges.Target.{Target}
 use Rattle.avs_ii.specs.Held.{IiDisks}
-use Rattle.avs_ii.specs.Meaning.{meaning}
-use Rattle.avs_ii.specs.Parts.{parts_of}
 use Rattle.avs_world.specs.declared.group.ShadowSet.{ShadowSet}
 use Rattle.avs_world.specs.Views.{GroupView, NoGroup, FreeDisk, InMemory, OnDisks, StoreView}
-use Rattle.avs_world.specs.Holds.{Shown, shown, Holds, HoldsBy, AreHere, AreGroups, IsPhase, is_enabled, name_at}
-use Rattle.avs_world.specs.Ranges.{role_by, disk_here, is_gone, size_here, group_size, reach_by, reach}
+use Rattle.avs_world.specs.Holds.{Shown, shown, Holds, HoldsBy, AreHere, IsPhase, name_at, disks_made}
+use Rattle.avs_world.specs.Ranges.{role_by, is_gone, reach_by, reach}
 use Rattle.avs_world.specs.Places.{place_of}
-use Rattle.avs_world.specs.Enabling.{IsNamedTarget, IsFree, GroupRefused, IsChosen, may_lead, is_plain, role_causes, target_causes, size_causes}
+use Rattle.avs_world.specs.Enabling.{IsNamedTarget, IsFree, HasNoFree, GroupRefused, IsChosen, may_lead, is_plain, role_causes, target_causes, size_causes}
 use Rattle.avs_world.proofs.Holding.{element, use_as, use_by_place, volume_named, name_there, is_at, found_plain}
-use Rattle.avs_world.proofs.OneSet.{one_held, found_master}
+use Rattle.avs_world.proofs.Holding.{open_groups, size_at, gone_at}
+use Rattle.avs_world.proofs.Ready.{master_size}
 
 -- a list of causes in two parts
 first_here : (xs ys : List (Bool × Refusal)) (why : Refusal) → first_cause xs ≡ Some why → first_cause (xs ++ ys) ≡ Some why
@@ -133,10 +132,6 @@ neither : (a b : Bool) → (a || b) ≡ false → (a ≡ false) × (b ≡ false)
 neither false b is = (refl, is)
 neither true b is = absurd (false≢true (sym is))
 
-unless : (a : Bool) → not a ≡ false → a ≡ true
-unless true is = refl
-unless false is = absurd (false≢true (sym is))
-
 -- the volumes may be those of a set, and they differ
 record MayServe (m s b : Role) (s_twice b_twice : Bool) : Type 0 where
   master : may_lead m ≡ true
@@ -155,9 +150,9 @@ may_serve m s b s_twice b_twice is =
     let shadows = neither (not (is_plain s)) s_twice second.0 in
     let bitmaps = neither (not (is_plain b)) b_twice third.0 in
     record {
-      master = unless (may_lead m) first.0;
-      shadow = unless (is_plain s) shadows.0;
-      bitmap = unless (is_plain b) bitmaps.0;
+      master = not-false (may_lead m) first.0;
+      shadow = not-false (is_plain s) shadows.0;
+      bitmap = not-false (is_plain b) bitmaps.0;
       shadow_once = shadows.1;
       bitmap_once = bitmaps.1;
     }
@@ -182,24 +177,11 @@ large_enough master shadow bitmap is =
     let second = first_none for_bitmap [] first.1 in
     (ltb-false shadow master first.0, ltb-false bitmap (bitmap_blocks master) second.0)
 
--- how many blocks the disk at a place has, and whether its contents are gone
-size_shown : (p : Place Seen) → option_map_or (λ d. d.size) (disk_here (Some p)) 0 ≡ (shown p).size
-size_shown (Here d) = refl
-size_shown (Spent d) = refl
-size_shown Lent = refl
-
-gone_shown : (p : Place Seen) → is_gone (Some p) ≡ (shown p).spent
-gone_shown (Here d) = refl
-gone_shown (Spent d) = refl
-gone_shown Lent = refl
-
+-- the disk at a place has a block where one is shown
 some_shown : (p : Place Seen) → (shown p).some ≡ true → 0 < (shown p).size
 some_shown (Here d) some = ltb-true 0 d.size some
 some_shown (Spent d) some = ltb-true 0 d.size some
 some_shown Lent some = absurd (false≢true some)
-
-size_at : (places : List (Place Seen)) (k : ℕ) (p : Place Seen) → slice_get places k ≡ Some p → size_here places k ≡ (shown p).size
-size_at places k p there = ap (λ (o : Option (Place Seen)). option_map_or (λ d. d.size) (disk_here o) 0) there ∙ size_shown p
 
 -- a disk with a block is here
 record IsHere (p : Place Seen) : Type 0 where
@@ -236,7 +218,7 @@ module _ (steady : Bool) (names : List (List ℕ)) (places : List (Place Seen)) 
   -- a group in memory has one set
   one_set_on : (set : ShadowSet) (held : IiDisks) (host : HostState) → HoldsBy steady names places (InMemory set held) host.volumes host.groups → sets_on host ≡ 1
   one_set_on set held host by =
-      let are = subst (λ b. AreGroups steady names set (meaning held) by.1.disks.state b host.groups) by.0.on_disk by.1.are in
+      let are = open_groups steady names places set held host.volumes host.groups by.0 by.1 in
       ap (λ (groups : List ShadowGroup). sum_by (λ (g : ShadowGroup). length g.sets) groups) are.1
 
   -- there can be no group more
@@ -246,16 +228,18 @@ module _ (steady : Bool) (names : List (List ℕ)) (places : List (Place Seen)) 
   full (InMemory set held) host why refused phase by = (refused, one_set_on set held host by)
   full (OnDisks set parts) host why refused phase by = let e : true ≡ false = phase in absurd (false≢true (sym e))
 
-  -- the master of a group in memory has the blocks of its volume
-  master_size : (group : GroupView) (host : HostState) (name : List ℕ) (k : ℕ) → names ≡ map (λ (v : VolumeState). v.name) host.volumes → HoldsBy steady names places group host.volumes host.groups → IsPhase true group
-      → position (bytes_eq name) names ≡ Some k → role_by group k ≡ Master → group_size group Master ≡ size_of host name
-  master_size NoGroup host name k same by phase sought role = absurd (cc)
-  master_size (FreeDisk disk) host name k same by phase sought role = absurd (cc)
-  master_size (InMemory set held) host name k same by phase sought role =
-      let one = one_held set by.1.disks held by.1.is in
-      ap (λ (vs : List Seen). option_map_or (λ (d : Seen). d.size) (slice_get vs 0) 0) one.volumes
-      ∙ (found_master steady names host places set by.1.disks (is_enabled set (parts_of held)) same by.1.shows by.1.set_of by.0.on_disk name k sought role).size
-  master_size (OnDisks set parts) host name k same by phase sought role = let e : true ≡ false = phase in absurd (false≢true (sym e))
+-- the disks that were made for states: none where there was no group, and else one, which is free
+pub no_disk : (group : GroupView) (host : HostState) → IsFree group → HasNoFree group → disks_made group ≡ host.state_disks → host.groups ≡ [] → are_disks_used host ≡ true
+no_disk NoGroup host free needed same none = (λ i. sym same i == length (none i))
+no_disk (FreeDisk disk) host free needed same none = absurd needed
+no_disk (InMemory set held) host free needed same none = absurd free
+no_disk (OnDisks set parts) host free needed same none = absurd free
+
+pub one_disk : (group : GroupView) (host : HostState) → IsFree group → disks_made group ≡ host.state_disks → host.groups ≡ [] → 1 ≡ (if are_disks_used host then host.state_disks + 1 else host.state_disks)
+one_disk NoGroup host free same none = (λ i. if same i == length (sym none i) then same i + 1 else same i)
+one_disk (FreeDisk disk) host free same none = (λ i. if same i == length (sym none i) then same i + 1 else same i)
+one_disk (InMemory set held) host free same none = absurd free
+one_disk (OnDisks set parts) host free same none = absurd free
 
 pub free_plain : (group : GroupView) (k : ℕ) → IsFree group → role_by group k ≡ Plain
 free_plain NoGroup k free = refl
@@ -301,7 +285,7 @@ module _ (steady : Bool) (store : StoreView) (state : State) (master shadow bitm
   master_reach : (name : List ℕ) (t : Target) → IsNamedTarget store name t → (t.role ≡ Plain) ⊎ (t.role ≡ Master) → reach store t ≡ size_of state.p name
   master_reach name t at (inl plain) = plain_reach name t at plain
   master_reach name t at (inr leads) =
-      ap (reach_by store t.place) leads ∙ master_size steady store.names store.places store.group state.p name t.place holds.same_names holds.by phase at.at (sym at.is ∙ leads)
+      ap (reach_by store t.place) leads ∙ sym (master_size steady store.names store.places state.p name t.place holds.same_names at.at store.group holds.by phase (sym at.is ∙ leads)).0
 
   -- they have the blocks of their volumes
   same_sizes : first_cause (target_causes m s b) ≡ None → size_causes (reach store m) (reach store s) (reach store b) ≡ sizes_of
@@ -339,7 +323,7 @@ module _ (steady : Bool) (store : StoreView) (state : State) (master shadow bitm
       let none = no_groups steady store.names store.places store.group state.p.volumes state.p.groups is_free holds.by in
       let p = element store.places m.place at_m.there in
       let f = found_plain steady store state master m.place p.0 holds (free_plain store.group m.place is_free) at_m.at p.1 in
-      let spent : is_spent state.p master ≡ is_gone (slice_get store.places m.place) = sym f.spent ∙ sym (gone_shown p.0) ∙ ap is_gone (sym p.1) in
+      let spent : is_spent state.p master ≡ is_gone (slice_get store.places m.place) = sym f.spent ∙ sym (gone_at store.places m.place p.0 p.1) in
       last passes fits
       ∙ (λ i. first_cause ((not (nat_lt (sum_by (λ (g : ShadowGroup). length g.sets) (none i)) most_sets), Limit most_sets) ∷ (spent i, NoContents) ∷ []))
 

@@ -14,10 +14,11 @@ use Rattle.avs_chunk.specs.Making.{FailsFormat, IsSmall}
 use Rattle.avs_model.specs.Limits.{bitmap_blocks}
 use Rattle.avs_model.specs.Shadows.{slot_count}
 use Rattle.avs_model.specs.State.{State, HostState, VolumeState, ShadowGroup}
-use Rattle.avs_model.specs.Stages.{StoppedIn, stages, command_stages, after_stages}
+use Rattle.avs_model.specs.Stages.{StoppedIn, stages}
 use Rattle.avs_model.specs.Recovery.{is_command}
 use Rattle.avs_model.specs.Refusals.{refusal, enable_causes, first_cause}
 use Rattle.avs_model.specs.Good.{Step}
+use Rattle.avs_model.specs.Promise.{AsksForDisk}
 use Rattle.avs_model.specs.declared.event.Event.{Event}
 use Rattle.avs_model.specs.declared.event.IiCommand.{IiCommand}
 use Rattle.avs_model.specs.declared.answer.Answer.{Answer}
@@ -45,13 +46,14 @@ use Rattle.avs_world.specs.Holds.{Holds, HoldsBy, IsPhase, IsStateDisk}
 use Rattle.avs_world.specs.Ranges.{disk_here}
 use Rattle.avs_world.specs.Places.{place_of}
 use Rattle.avs_world.specs.Causes.{AtPlace, InGroup, group_disks, faults_of, DiskRose}
-use Rattle.avs_world.specs.Enabling.{IsFree, IsChosen, HasThree, TakesState, LendsTo, Fills, FillsNone, places_lent, places_back, set_of}
-use Rattle.avs_world.proofs.Holding.{slice_get-set, holds_apart}
-use Rattle.avs_world.proofs.Standing.{up_none, up_kept, up_holds, up_phase, stands_up}
+use Rattle.avs_world.specs.Enabling.{IsFree, HasNoFree, IsChosen, HasThree, TakesState, LendsTo, Fills, FillsNone, places_lent, places_back, set_of}
+use Rattle.avs_world.proofs.Choosing.{no_groups, no_disk}
+use Rattle.avs_world.proofs.Holding.{slice_get-set}
+use Rattle.avs_world.proofs.Standing.{up_none, up_kept, up_holds, up_phase, stands_up, stands_down}
 use Rattle.avs_world.proofs.Lending.{one_added, added_blocks, disk_of_place}
 use Rattle.avs_world.proofs.NewGroups.{writes, faults_later}
 use Rattle.avs_world.proofs.Enabled.{given_back}
-use Rattle.avs_world.proofs.Outcomes.{Falls, start_falls, back_falls, enabled, commit_falls}
+use Rattle.avs_world.proofs.Outcomes.{after_command, Falls, start_falls, back_falls, enabled, commit_falls}
 
 -- The state disk that is taken.
 module _ (rack : RackSeen) (disk : Seen) (tells : IsTrue rack.tells) where
@@ -72,12 +74,6 @@ module _ (rack : RackSeen) (disk : Seen) (tells : IsTrue rack.tells) where
       subst (λ (d : Seen). IsStateDisk rack.steady d × (rack.steady ≡ true → d.armed ≡ false)) (sym takes.0) by.1.1
   taken names places (InMemory set held) new volumes groups free takes by = absurd free
   taken names places (OnDisks set parts) new volumes groups free takes by = absurd free
-
-pub taken_free : (rack : RackSeen) (disk : Seen) (group new : GroupView) → IsFree group → TakesState group rack disk new → new ≡ NoGroup
-taken_free rack disk NoGroup new free takes = takes.1
-taken_free rack disk (FreeDisk one) new free takes = takes.1
-taken_free rack disk (InMemory set held) new free takes = absurd free
-taken_free rack disk (OnDisks set parts) new free takes = absurd free
 
 -- it has failed as often as the group's disk before, where there was one
 taken_faults : (rack : RackSeen) (disk : Seen) (group new : GroupView) → IsFree group → TakesState group rack disk new → option_map_or (λ (d : Seen). d.faults) (slice_get (group_disks group) 0) 0 ≤ disk.faults
@@ -213,23 +209,23 @@ module _ (steady : Bool) (store : StoreView) (state : State) (master shadow bitm
 
     -- it was done
     pub lend_done : LendsTo store.places chosen shadow held true places_new new
-        → Holds steady (record store { places = places_new; group = new }) (after_stages state (command_stages P (Enable true master shadow bitmap))) × IsPhase true new
+        → Holds steady (record store { places = places_new; group = new }) (after_command state (Enable true master shadow bitmap)) × IsPhase true new
     lend_done lends = by lends.fills
       where
         chosen_is : IsChosen store master shadow bitmap chosen
         chosen_is = record is { three = lends.three }
 
         by : Fills (places_lent store.places chosen) (set_of shadow chosen lends.three.shadow_spent) lends.held_mid lends.three.shadow_disk lends.three.bitmap_disk true places_new new
-            → Holds steady (record store { places = places_new; group = new }) (after_stages state (command_stages P (Enable true master shadow bitmap))) × IsPhase true new
+            → Holds steady (record store { places = places_new; group = new }) (after_command state (Enable true master shadow bitmap)) × IsPhase true new
         by (inl fills) =
             let commits = fills.commits in
             let held_by = enabled steady store state master shadow bitmap chosen chosen_is holds passes disk held lends.held_mid fills.held_mid fills.slot opens lends.adds fills.enables state_disk unarmed
             (Ok commits.value) commits.held_new commits.confirms commits.value refl in (
-              subst (λ (g : GroupView). Holds steady (record store { places = places_new; group = g }) (after_stages state (command_stages P (Enable true master shadow bitmap)))) (sym commits.is)
+              subst (λ (g : GroupView). Holds steady (record store { places = places_new; group = g }) (after_command state (Enable true master shadow bitmap))) (sym commits.is)
                   (
                   subst
                   (λ (l : List (Place Seen)). Holds steady (record store { places = l; group = InMemory (record (set_of shadow chosen lends.three.shadow_spent) { slot = fills.slot }) commits.held_new })
-                  (after_stages state (command_stages P (Enable true master shadow bitmap)))) (sym fills.places_same) held_by
+                  (after_command state (Enable true master shadow bitmap))) (sym fills.places_same) held_by
                   ),
               subst (λ (g : GroupView). IsPhase true g) (sym commits.is) refl,
             )
@@ -237,13 +233,7 @@ module _ (steady : Bool) (store : StoreView) (state : State) (master shadow bitm
 
 -- The world then.
 
--- a group that is taken apart lies on its disks, which have failed as often
-down_closed : (group : GroupView) → IsPhase false (closed group)
-down_closed NoGroup = tt
-down_closed (FreeDisk disk) = tt
-down_closed (InMemory set held) = refl
-down_closed (OnDisks set parts) = refl
-
+-- a group that is taken apart lies on disks that have failed as often
 pub rose_closed : (old store : StoreView) (group : GroupView) → SameApart group → DiskRose old (record store { group = group }) → DiskRose old (record store { group = closed group })
 rose_closed old store NoGroup same rose = rose
 rose_closed old store (FreeDisk disk) same rose = rose
@@ -268,34 +258,27 @@ module _ {D : Type 0} (seen : D → Seen) (steady : Bool) (new : World D) (state
   stop_steps answer told same down kept view falls = (
     falls.next,
     subst (λ (a : Answer). Step steady state (Ii P command) a falls.next) (sym told) falls.step,
-    record {
-      up = down ∙ sym falls.down;
-      none_stopped = λ up. absurd (false≢true (sym falls.down ∙ up));
-      keeps = subst (λ (o : Option Stopped). Keeps o falls.next.p) (sym kept) (record { command = command; is = falls.stopped; none = falls.none });
-      left = falls.left;
-      stopped = subst (λ (o : Option Event). StoppedIn falls.next (option_map_or (stages falls.next) o []) falls.left) (sym falls.stopped) falls.stopped_in;
-      there = subst (λ (o : Option Stopped). IsThere o falls.left) (sym kept) tt;
-      holds = subst (λ (v : StoreView). Holds steady v falls.left) (sym view) (holds_apart steady (record store { group = group }) falls.left same falls.holds);
-      phase = subst (λ (b : Bool). IsPhase b (view_of seen new).group) (sym down) (subst (λ (v : StoreView). IsPhase false v.group) (sym view) (down_closed group));
-      explained = subst (λ (v : StoreView). IsExplained v.group falls.next.p) (sym view) (command_explained (closed group) falls.next.p command falls.stopped);
-    },
+    stands_down seen steady new falls.next (record store { group = group }) falls.left down falls.down view same
+        (subst (λ (o : Option Stopped). Keeps o falls.next.p) (sym kept) (record { command = command; is = falls.stopped; none = falls.none }))
+        (subst (λ (o : Option Event). StoppedIn falls.next (option_map_or (stages falls.next) o []) falls.left) (sym falls.stopped) falls.stopped_in)
+        (subst (λ (o : Option Stopped). IsThere o falls.left) (sym kept) tt) falls.holds (command_explained (closed group) falls.next.p command falls.stopped),
   )
 
 module _ {D : Type 0} (seen : D → Seen) (steady : Bool) (old new : World D) (state : State) (command : IiCommand) (store : StoreView) (stands : Stands seen steady old state) (up : old.up ≡ true) where
   pub done_steps : new.up ≡ old.up → new.stopped ≡ old.stopped → refusal state (Ii P command) ≡ None → view_of seen new ≡ store
-      → Holds steady store (after_stages state (command_stages P command)) × IsPhase true store.group → (next : State) × Step steady state (Ii P command) Done next × Stands seen steady new next
+      → Holds steady store (after_command state command) × IsPhase true store.group → (next : State) × Step steady state (Ii P command) Done next × Stands seen steady new next
   done_steps same_up same_stopped passes view held =
-      let next = after_stages state (command_stages P command) in (
+      let next = after_command state command in (
         next,
         record { right = (passes, refl); next = refl },
         stands_up seen steady new next (same_up ∙ up) (is_up command) (none_stopped command) (same_stopped ∙ up_kept seen steady old state stands up) (subst (λ (v : StoreView). Holds steady v next) (sym view) held.0)
             (subst (λ (v : StoreView). IsPhase true v.group) (sym view) held.1),
       )
     where
-      is_up : (c : IiCommand) → (after_stages state (command_stages P c)).p.up ≡ true
+      is_up : (c : IiCommand) → (after_command state c).p.up ≡ true
       is_up (Enable dependent master shadow bitmap) = sym stands.up ∙ up
 
-      none_stopped : (c : IiCommand) → (after_stages state (command_stages P c)).p.stopped ≡ None
+      none_stopped : (c : IiCommand) → (after_command state c).p.stopped ≡ None
       none_stopped (Enable dependent master shadow bitmap) = up_none seen steady old state stands up
 
 -- nothing refuses a command on a host that is up where none of its own causes holds
@@ -330,6 +313,18 @@ ready seen rack old state m s b master shadow bitmap disk left tells stands up a
       state_disk = got.0;
       unarmed = got.1;
     }
+
+-- where no disk is free none was made, and the command asks for one
+pub asks : {D : Type 0} (seen : D → Seen) (steady : Bool) (old : World D) (state : State) (m s b master shadow bitmap : List ℕ) → Stands seen steady old state → old.up ≡ true → m ≡ master → s ≡ shadow → b ≡ bitmap
+    → ((steady : Bool) (t : State) → Holds steady (view_of seen old) t → IsPhase true (view_of seen old).group → first_cause (enable_causes t.p m s b) ≡ None)
+    → IsFree (view_of seen old).group → HasNoFree (view_of seen old).group → AsksForDisk state (Ii P (Enable true master shadow bitmap))
+asks seen steady old state m s b master shadow bitmap stands up at_m at_s at_b passes free needed =
+    let holds = up_holds seen steady old state stands up in
+    let none = passes steady state holds (up_phase seen steady old state stands up) in
+    let store = view_of seen old in (
+      command_passes state true master shadow bitmap (sym stands.up ∙ up) (sym (λ i. first_cause (enable_causes state.p (at_m i) (at_s i) (at_b i))) ∙ none),
+      no_disk store.group state.p free needed holds.same_disks (no_groups steady store.names store.places store.group state.p.volumes state.p.groups free holds.by),
+    )
 
 -- what is seen of a shelf, with that group
 abbrev pub store_with : {D : Type 0} → (D → Seen) → Shelf D → GroupView → StoreView

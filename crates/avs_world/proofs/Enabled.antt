@@ -22,9 +22,6 @@ use Rattle.avs_world.proofs.Choosing.{no_groups, all_here, named_there}
 
 -- Three places of a list.
 module _ {X : Type 0} (xs : List X) (m s b : ℕ) (s_m : s ≢ m) (b_m : b ≢ m) (b_s : b ≢ s) where
-  m_s : m ≢ s
-  m_s e = s_m (sym e)
-
   m_b : m ≢ b
   m_b e = b_m (sym e)
 

@@ -1,8 +1,8 @@
 -- A group that is found on its disks, and a set that is given up.
-use Rattle.std.proofs.Common.{inl, inr, Err, ◌≡◌, ℕ, ◌≤◌, Bool, true, false, not, cond, ◌&&◌, Option, None, Some, List, [], ◌∷◌, length, map, refl, sym, ◌∙◌, ap, subst, arith}
+use Rattle.std.proofs.Common.{inl, inr, Err, ◌≡◌, ℕ, ◌≤◌, Bool, true, false, not, cond, None, Some, List, [], ◌∷◌, length, map, refl, sym, ◌∙◌, ap, subst, arith}
 use Rattle.std.specs.Prelude.{slice_set, if◌then◌else◌, find, ◌==◌, ◌||◌, is_some}
 use Rattle.std.specs.List.{list_all, slice_get}
-use Rattle.std.specs.Option.{option_map, option_map_or}
+use Rattle.std.specs.Option.{option_map_or}
 use Rattle.std.proofs.lemmas.Bool.{false≢true, cases_Bool, cases_lt}
 use Rattle.std.proofs.lemmas.Option.{slice_get_past}
 use Rattle.std.proofs.lemmas.List.{length-map, map-set}
@@ -10,7 +10,7 @@ use Rattle.avs_dev.specs.Devices.{NoneFell}
 use Rattle.avs_dev.specs.Seen.{Seen}
 use Rattle.avs_code.specs.declared.group_blocks.GroupBlock.{GroupBlock}
 use Rattle.avs_model.specs.Shadows.{GroupState}
-use Rattle.avs_model.specs.State.{VolumeState, HostState, ShadowGroup}
+use Rattle.avs_model.specs.State.{VolumeState, ShadowGroup}
 use Rattle.avs_model.specs.declared.shadow.Kind.TheVariants.{Dep}
 use Rattle.avs_ii.specs.SetDisks.{SetDisks}
 use Rattle.avs_ii.specs.Held.{HeldSet, IiDisks, disks_of, is_live, pending_in}
@@ -22,7 +22,7 @@ use Rattle.avs_world.specs.declared.place.Place.{Place}
 use Rattle.avs_world.specs.declared.place.Place.TheVariants.{Here, Spent}
 use Rattle.avs_world.specs.declared.group.ShadowSet.{ShadowSet}
 use Rattle.avs_world.specs.Views.{GroupView, FreeDisk, InMemory, OnDisks, StoreView, FourDisks, one_set}
-use Rattle.avs_world.specs.Holds.{Shown, gone, kept, plain, plain_or_gone, shown, shown_with, is_enabled, AreGroups, IsStateDisk, HoldsSet, HoldsBy, IsPhase}
+use Rattle.avs_world.specs.Holds.{Shown, gone, kept, plain, plain_or_gone, shown, shown_with, is_enabled, AreGroups, IsStateDisk, HoldsSet, HoldsBy, IsPhase, disks_made}
 use Rattle.avs_world.specs.Places.{place_of}
 use Rattle.avs_world.specs.Enabling.{places_back}
 use Rattle.avs_world.specs.Causes.{DiskName, AtPlace, InGroup, faults_of, was_there}
@@ -30,9 +30,8 @@ use Rattle.avs_dev.specs.declared.back.Why.{Why}
 use Rattle.avs_dev.specs.declared.back.Why.TheVariants.{Size, BadRecord, NoMemory, Fault}
 use Rattle.avs_world.specs.Recovering.{FoundBy, IsFound, Finds, Settles, second_by}
 use Rattle.avs_model.specs.declared.recovered.Second.TheVariants.{Kept, Done}
-use Rattle.avs_world.proofs.Holding.{three_volumes}
-use Rattle.avs_world.proofs.OneSet.{one_element, IsOneSet, one_held}
-use Rattle.avs_world.proofs.Staying.{count_at}
+use Rattle.avs_world.proofs.OneSet.{one_element, one_there, IsOneSet, one_held}
+use Rattle.avs_world.proofs.Staying.{count_at, four_steady}
 use Rattle.avs_world.proofs.Reading.{rose_in, there_in}
 
 -- Disks that differ in their counts of faults alone.
@@ -45,11 +44,6 @@ pub record SameDisks (slot : ℕ) (disks : FourDisks) (parts : PartDisks) : Type
   pub shadow : no_faults others.shadow ≡ no_faults disks.shadow
   pub bitmap : no_faults others.bitmap ≡ no_faults disks.bitmap
 
--- a disk that is there without its faults
-there_without : (o : Option Seen) (d : Seen) → option_map no_faults o ≡ Some d → (x : Seen) × (o ≡ Some x) × (no_faults x ≡ d)
-there_without None d e = absurd (cc)
-there_without (Some x) d e = (x, refl, cc)
-
 none_of : {X Y : Type 0} (f : X → Y) (xs : List X) → map f xs ≡ [] → xs ≡ []
 none_of f [] e = refl
 none_of f (x ∷ xs) e = absurd (cc)
@@ -59,7 +53,7 @@ same_disks slot disks parts same =
     let volumes = one_element no_faults parts.volumes (no_faults disks.master) (ap (λ (p : PartDisks). p.volumes) same) in
     let sets = one_element set_no_faults parts.sets _ (ap (λ (p : PartDisks). p.sets) same) in
     let s = sets.0 in
-    let shadow = there_without s.shadow (no_faults disks.shadow) (ap (λ (t : SetDisks). t.shadow) sets.1.1) in
+    let shadow = one_there no_faults s.shadow (no_faults disks.shadow) (ap (λ (t : SetDisks). t.shadow) sets.1.1) in
     let set : s ≡ record { slot = slot; kind = Dep; master = 0; shadow = Some shadow.0; bitmap = s.bitmap; over = None } =
     λ i. record {
       slot = ap (λ (t : SetDisks). t.slot) sets.1.1 i;
@@ -168,12 +162,14 @@ is_found store set parts held loads = record {
     same_names = holds.same_names;
     same_blocks = holds.same_blocks;
     no_other = holds.no_other;
+    same_disks = holds.same_disks;
     by = found_by steady store.names store.places set parts held state.p.volumes state.p.groups loads holds.by;
   };
   enabled = λ steady state holds phase settled. record {
     same_names = holds.same_names;
     same_blocks = holds.same_blocks;
     no_other = holds.no_other;
+    same_disks = holds.same_disks;
     by = open_by steady store.names store.places set parts held state.p.volumes state.p.groups loads settled holds.by;
   };
   phase = refl;
@@ -183,29 +179,10 @@ is_found store set parts held loads = record {
 
 -- It is not found.
 
--- all disks of the group are as steady as the state says
-four_steady : (steady : Bool) (names : List (List ℕ)) (host : HostState) (places : List (Place Seen)) (set : ShadowSet) (parts : PartDisks) (group : GroupState) → names ≡ map (λ (v : VolumeState). v.name) host.volumes
-    → HoldsSet steady names places set parts group host.volumes host.groups → steady ≡ true → list_all (λ (d : Seen). d.steady) (disks_in parts) ≡ true
-four_steady steady names host places set parts group same holds is =
-    let three = three_volumes steady names host places set holds.disks (is_enabled set parts) same holds.shows holds.set_of in
-    let st : holds.disks.state.steady ≡ true = holds.state_disk.same ∙ is in
-    let m : holds.disks.master.steady ≡ true = steady_of (is_enabled set parts) holds.disks.master (kept holds.disks.master) (plain holds.disks.master) refl refl ∙ ap (λ (s : Shown). s.steady) three.master.is ∙ is in
-    let sh : holds.disks.shadow.steady ≡ true = steady_of (is_enabled set parts) holds.disks.shadow (kept holds.disks.shadow) (plain_or_gone set.spent holds.disks.shadow) refl (plain_steady set.spent holds.disks.shadow) ∙ ap (λ (s : Shown). s.steady) three.shadow.is ∙ is in
-    let b : holds.disks.bitmap.steady ≡ true = ap (λ (s : Shown). s.steady) three.bitmap.is ∙ is in
-    ap (λ (p : PartDisks). list_all (λ (d : Seen). d.steady) (disks_in p)) holds.is ∙ (λ i. st i && (m i && (sh i && (b i && true))))
-  where
-    steady_of : (live : Bool) (d : Seen) (x y : Shown) → d.steady ≡ x.steady → d.steady ≡ y.steady → d.steady ≡ (if live then x else y).steady
-    steady_of true d x y ex ey = ex
-    steady_of false d x y ex ey = ey
-
-    plain_steady : (spent : Bool) (d : Seen) → d.steady ≡ (plain_or_gone spent d).steady
-    plain_steady true d = refl
-    plain_steady false d = refl
-
 module _ (steady : Bool) (names : List (List ℕ)) (places : List (Place Seen)) (set : ShadowSet) (parts others : PartDisks) (volumes : List VolumeState) (groups : List ShadowGroup) where
-  lost_by : parts_no_faults others ≡ parts_no_faults parts → (AreTold parts → AreTold others) → (AreWhole parts → AreWhole others) → meaning_of_parts others ≡ meaning_of_parts parts
+  unfound_by : parts_no_faults others ≡ parts_no_faults parts → (AreTold parts → AreTold others) → (AreWhole parts → AreWhole others) → meaning_of_parts others ≡ meaning_of_parts parts
       → HoldsBy steady names places (OnDisks set parts) volumes groups → HoldsBy steady names places (OnDisks set others) volumes groups
-  lost_by same told whole group by = (
+  unfound_by same told whole group by = (
     record { told = told by.0.told; whole = whole by.0.whole },
     subst (λ (g : GroupState). HoldsSet steady names places set others g volumes groups) (sym group) (same_set steady names places set parts others (meaning_of_parts parts) volumes groups same by.1),
   )
@@ -221,7 +198,8 @@ is_refused store set parts others Fault refused =
         same_names = holds.same_names;
         same_blocks = holds.same_blocks;
         no_other = holds.no_other;
-        by = lost_by steady store.names store.places set parts others state.p.volumes state.p.groups refused.parts refused.told refused.whole refused.group holds.by;
+        same_disks = holds.same_disks;
+        by = unfound_by steady store.names store.places set parts others state.p.volumes state.p.groups refused.parts refused.told refused.whole refused.group holds.by;
       };
       set = set;
       parts = parts;
@@ -230,7 +208,8 @@ is_refused store set parts others Fault refused =
       is = refl;
       enabled = ap (λ (p : PartDisks). is_enabled set p) refused.parts;
       unsteady = λ steady state holds. elim (cases_Bool steady) [
-        | inl is ↦ absurd (false≢true (sym refused.cause.1 ∙ four_steady steady store.names state.p store.places set parts (meaning_of_parts parts) holds.same_names holds.by.1 is))
+        | inl is ↦ absurd (false≢true (sym refused.cause.1 ∙ ap (λ (p : PartDisks). list_all (λ (d : Seen). d.steady) (disks_in p)) holds.by.1.is
+            ∙ four_steady steady store.names state.p store.places set parts (meaning_of_parts parts) holds.same_names holds.by.1 is))
         | inr is ↦ is
       ];
       cause = rose_in (record store { group = OnDisks set parts }) (record store { group = OnDisks set others }) (disks_in parts) (disks_in others) refl refl refused.cause.0;
@@ -328,6 +307,7 @@ settled_open store set held none = record {
     same_names = found.same_names;
     same_blocks = found.same_blocks;
     no_other = found.no_other;
+    same_disks = found.same_disks;
     by = still_open steady store.names store.places set held state.p.volumes state.p.groups found.by none;
   };
   phase = λ phase. phase;
@@ -344,6 +324,7 @@ settled_back store new set held left s shadow bitmap gives group names blocks pl
         same_names = names ∙ found.same_names;
         same_blocks = blocks ∙ found.same_blocks;
         no_other = found.no_other;
+        same_disks = ap disks_made group ∙ found.same_disks;
         by = subst (λ (g : GroupView). HoldsBy steady new.names new.places g state.p.volumes state.p.groups) (sym group)
             (subst (λ (n : List (List ℕ)). HoldsBy steady n new.places (FreeDisk left.state) state.p.volumes state.p.groups) (sym names)
             (subst (λ (p : List (Place Seen)). HoldsBy steady store.names p (FreeDisk left.state) state.p.volumes state.p.groups) (sym (places back.0 back.1.0)) back.1.1));

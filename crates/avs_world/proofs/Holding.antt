@@ -11,19 +11,23 @@ use Rattle.std.proofs.lemmas.List.{map-set, set-get_or, set_comm, length-map, le
 use Rattle.std.proofs.lemmas.List.Sums.{sum_by-set}
 use Rattle.std.proofs.lemmas.Slice.Eq.{bytes_eq-Decides}
 use Rattle.avs_dev.specs.Seen.{Seen}
+use Rattle.avs_world.specs.Views.{one_set}
+use Rattle.avs_world.specs.Ranges.{disk_here, is_gone, size_here}
+use Rattle.avs_world.specs.Holds.{IsStateDisk, IsOpen}
 use Rattle.avs_model.specs.Shadows.{GroupState}
 use Rattle.avs_model.specs.State.{State, VolumeState, HostState, ShadowGroup, Use, Alone, MasterIn, ShadowIn, BitmapIn, first_use, or_use, use_from, use_of, volume_of, size_of, is_spent, blocks_on}
 use Rattle.avs_model.specs.declared.answer.Role.{Role}
 use Rattle.avs_model.specs.declared.answer.Role.TheVariants.{Master, Shadow, Bitmap, Plain}
 use Rattle.avs_model.proofs.Volumes.{position_or_len-map, position_some, position_none, place_or_count, volume_of-place}
+use Rattle.avs_ii.specs.Held.{IiDisks}
 use Rattle.avs_ii.specs.Meaning.{meaning}
 use Rattle.avs_ii.specs.Parts.{PartDisks, parts_of, meaning_of_parts}
 use Rattle.avs_world.specs.declared.place.Place.{Place}
-use Rattle.avs_world.specs.declared.place.Place.TheVariants.{Lent}
+use Rattle.avs_world.specs.declared.place.Place.TheVariants.{Here, Spent, Lent}
 use Rattle.avs_world.specs.declared.group.ShadowSet.{ShadowSet}
 use Rattle.avs_world.specs.Views.{GroupView, NoGroup, FreeDisk, InMemory, OnDisks, StoreView, FourDisks, closed, SameApart}
 use Rattle.avs_world.specs.Ranges.{role_in, role_by}
-use Rattle.avs_world.specs.Holds.{Shown, plain, gone, kept, plain_or_gone, shown, expected, shown_with, name_at, IsNamed, IsSetOf, group_with, is_enabled, AreGroups, HoldsSet, HoldsBy, Holds, IsPhase}
+use Rattle.avs_world.specs.Holds.{Shown, plain, gone, kept, plain_or_gone, shown, expected, shown_with, name_at, IsNamed, IsSetOf, group_with, is_enabled, AreGroups, HoldsSet, HoldsBy, Holds, IsPhase, disks_made}
 
 -- Elements by place.
 
@@ -154,6 +158,23 @@ shown_there places k p there = slice_get-map shown places k ∙ ap (option_map s
 -- no volume is shown by a disk that is not here
 pub not_lent : (steady : Bool) (v : VolumeState) → shown Lent ≡ expected steady v → ⊥
 not_lent steady v is = omega (arith, ap (λ (s : Shown). s.told) is, ap (λ (s : Shown). s.size) is)
+
+-- how many blocks the disk at a place has, and whether its contents are gone
+size_shown : (p : Place Seen) → option_map_or (λ d. d.size) (disk_here (Some p)) 0 ≡ (shown p).size
+size_shown (Here d) = refl
+size_shown (Spent d) = refl
+size_shown Lent = refl
+
+gone_shown : (p : Place Seen) → is_gone (Some p) ≡ (shown p).spent
+gone_shown (Here d) = refl
+gone_shown (Spent d) = refl
+gone_shown Lent = refl
+
+pub size_at : (places : List (Place Seen)) (k : ℕ) (p : Place Seen) → slice_get places k ≡ Some p → size_here places k ≡ (shown p).size
+size_at places k p there = ap (λ (o : Option (Place Seen)). option_map_or (λ d. d.size) (disk_here o) 0) there ∙ size_shown p
+
+pub gone_at : (places : List (Place Seen)) (k : ℕ) (p : Place Seen) → slice_get places k ≡ Some p → is_gone (slice_get places k) ≡ (shown p).spent
+gone_at places k p there = ap is_gone there ∙ gone_shown p
 
 -- the volume that was found under a name, and what is shown of it
 pub record Found (steady : Bool) (host : HostState) (name : List ℕ) (k : ℕ) (s : Shown) : Type 0 where
@@ -295,13 +316,37 @@ module _ (names : List (List ℕ)) (host : HostState) (set : ShadowSet) (state :
 pub use_alone : (host : HostState) (name : List ℕ) → host.groups ≡ [] → use_of host name ≡ Alone
 use_alone host name none = ap (λ (groups : List ShadowGroup). use_from 0 groups name) none
 
+-- A set.
+
+module _ (steady : Bool) (names : List (List ℕ)) (places : List (Place Seen)) (set : ShadowSet) where
+  -- its disks hold these volumes and groups, by whether it is enabled
+  pub set_holds : (parts : PartDisks) (disks : FourDisks) (live : Bool) (state : GroupState) (volumes : List VolumeState) (groups : List ShadowGroup) → parts ≡ one_set set.slot disks → IsSetOf names set → IsStateDisk steady disks.state
+      → is_enabled set parts ≡ live → shown_with places set disks live ≡ map (expected steady) volumes → AreGroups steady names set state disks.state live groups → HoldsSet steady names places set parts state volumes groups
+  set_holds parts disks live state volumes groups is set_of state_disk enabled shows are = record {
+    disks = disks;
+    is = is;
+    set_of = set_of;
+    state_disk = state_disk;
+    shows = ap (shown_with places set disks) enabled ∙ shows;
+    are = subst (λ (b : Bool). AreGroups steady names set state disks.state b groups) (sym enabled) are;
+  }
+
+  -- what is known where it is enabled
+  pub open_shows : (held : IiDisks) {state : GroupState} (volumes : List VolumeState) (groups : List ShadowGroup) → IsOpen set held → (holds : HoldsSet steady names places set (parts_of held) state volumes groups)
+      → shown_with places set holds.disks true ≡ map (expected steady) volumes
+  open_shows held volumes groups opened holds = ap (shown_with places set holds.disks) (sym opened.on_disk) ∙ holds.shows
+
+  pub open_groups : (held : IiDisks) {state : GroupState} (volumes : List VolumeState) (groups : List ShadowGroup) → IsOpen set held → (holds : HoldsSet steady names places set (parts_of held) state volumes groups)
+      → AreGroups steady names set state holds.disks.state true groups
+  open_groups held {state} volumes groups opened holds = subst (λ (b : Bool). AreGroups steady names set state holds.disks.state b groups) opened.on_disk holds.are
+
 -- by the group, while the host is up
 use_held : (steady : Bool) (names : List (List ℕ)) (places : List (Place Seen)) (group : GroupView) (host : HostState) (name : List ℕ) (k : ℕ) → HoldsBy steady names places group host.volumes host.groups
     → IsPhase true group → position (bytes_eq name) names ≡ Some k → use_of host name ≡ use_as (role_by group k)
 use_held steady names places NoGroup host name k by phase sought = use_alone host name by.1
 use_held steady names places (FreeDisk disk) host name k by phase sought = use_alone host name by.1.0
 use_held steady names places (InMemory set held) host name k by phase sought =
-    let are = subst (λ b. AreGroups steady names set (meaning held) by.1.disks.state b host.groups) by.0.on_disk by.1.are in
+    let are = open_groups steady names places set held host.volumes host.groups by.0 by.1 in
     use_in_set names host set (meaning held) are.0 are.1 name k by.1.set_of sought
 use_held steady names places (OnDisks set parts) host name k by phase sought = let e : true ≡ false = phase in absurd (false≢true (sym e))
 
@@ -325,12 +370,13 @@ plain_in set k is = by (k == set.master) (k == set.shadow) (k == set.bitmap) ref
 
 -- How a store goes on holding a state.
 
--- the volumes and the groups alone count
-pub holds_same_state : (steady : Bool) (store : StoreView) (s t : State) → t.p.volumes ≡ s.p.volumes → t.p.groups ≡ s.p.groups → t.s ≡ s.s → Holds steady store s → Holds steady store t
-holds_same_state steady store s t volumes groups other holds = record {
+-- the volumes, the groups and the count of state disks alone matter
+pub holds_same_state : (steady : Bool) (store : StoreView) (s t : State) → t.p.volumes ≡ s.p.volumes → t.p.groups ≡ s.p.groups → t.p.state_disks ≡ s.p.state_disks → t.s ≡ s.s → Holds steady store s → Holds steady store t
+holds_same_state steady store s t volumes groups disks other holds = record {
   same_names = holds.same_names ∙ ap (map (λ (v : VolumeState). v.name)) (sym volumes);
   same_blocks = holds.same_blocks ∙ (λ i. sum_by (λ (v : VolumeState). v.blocks) (sym volumes i) + blocks_on (sym other i));
   no_other = other ∙ holds.no_other;
+  same_disks = holds.same_disks ∙ sym disks;
   by = subst (λ (gs : List ShadowGroup). HoldsBy steady store.names store.places store.group t.p.volumes gs) (sym groups)
       (subst (λ (vs : List VolumeState). HoldsBy steady store.names store.places store.group vs s.p.groups) (sym volumes) holds.by);
 }
@@ -341,25 +387,33 @@ apart_by : (steady : Bool) (names : List (List ℕ)) (places : List (Place Seen)
 apart_by steady names places NoGroup volumes groups same by = by
 apart_by steady names places (FreeDisk disk) volumes groups same by = by
 apart_by steady names places (InMemory set held) volumes groups same by = (
-  record { told = by.0.told; whole = same.whole by.0.sound by.0.told },
+  record { told = by.0.told; whole = same.whole by.0.sound },
   subst (λ (g : GroupState). HoldsSet steady names places set (parts_of held) g volumes groups) (sym same.meaning) by.1,
 )
 apart_by steady names places (OnDisks set parts) volumes groups same by = by
+
+-- it has as many state disks
+same_made : (group : GroupView) → disks_made (closed group) ≡ disks_made group
+same_made NoGroup = refl
+same_made (FreeDisk disk) = refl
+same_made (InMemory set held) = refl
+same_made (OnDisks set parts) = refl
 
 pub holds_apart : (steady : Bool) (store : StoreView) (state : State) → SameApart store.group → Holds steady store state → Holds steady (record store { group = closed store.group }) state
 holds_apart steady store state same holds = record {
   same_names = holds.same_names;
   same_blocks = holds.same_blocks;
   no_other = holds.no_other;
+  same_disks = same_made store.group ∙ holds.same_disks;
   by = apart_by steady store.names store.places store.group state.p.volumes state.p.groups same holds.by;
 }
 
--- the group is on its disks when it was taken apart
-pub phase_apart : (group : GroupView) → IsPhase true group → IsPhase false (closed group)
-phase_apart NoGroup phase = phase
-phase_apart (FreeDisk disk) phase = phase
-phase_apart (InMemory set held) phase = refl
-phase_apart (OnDisks set parts) phase = let e : true ≡ false = phase in absurd (false≢true (sym e))
+-- it then lies on its disks
+pub phase_apart : (group : GroupView) → IsPhase false (closed group)
+phase_apart NoGroup = tt
+phase_apart (FreeDisk disk) = tt
+phase_apart (InMemory set held) = refl
+phase_apart (OnDisks set parts) = refl
 
 -- Volumes, of which one is another that has its name and its blocks.
 module _ (volumes : List VolumeState) (k : ℕ) (v w : VolumeState) (there : slice_get volumes k ≡ Some v) where
@@ -376,11 +430,12 @@ module _ (volumes : List VolumeState) (k : ℕ) (v w : VolumeState) (there : sli
 
   -- the names and the blocks of a state of which only that changed
   pub holds_changed : (steady : Bool) (store : StoreView) (s t : State) (places : List (Place Seen)) (group : GroupView) → Holds steady store s → s.p.volumes ≡ volumes → t.p.volumes ≡ slice_set volumes k w → t.s ≡ s.s
-      → w.name ≡ v.name → w.blocks ≡ v.blocks → HoldsBy steady store.names places group t.p.volumes t.p.groups → Holds steady (record store { places = places; group = group }) t
-  holds_changed steady store s t places group holds was is other name blocks by = record {
+      → w.name ≡ v.name → w.blocks ≡ v.blocks → disks_made group ≡ t.p.state_disks → HoldsBy steady store.names places group t.p.volumes t.p.groups → Holds steady (record store { places = places; group = group }) t
+  holds_changed steady store s t places group holds was is other name blocks disks by = record {
     same_names = holds.same_names ∙ ap (map (λ (u : VolumeState). u.name)) was ∙ sym (names-set name) ∙ ap (map (λ (u : VolumeState). u.name)) (sym is);
     same_blocks = holds.same_blocks ∙ (λ i. (ap (sum_by (λ (u : VolumeState). u.blocks)) was ∙ sym (blocks-set blocks) ∙ ap (sum_by (λ (u : VolumeState). u.blocks)) (sym is)) i + blocks_on (sym other i));
     no_other = other ∙ holds.no_other;
+    same_disks = disks;
     by = by;
   }
 
@@ -450,15 +505,16 @@ holds_same_shown steady store state places same holds = record {
   same_names = holds.same_names;
   same_blocks = holds.same_blocks;
   no_other = holds.no_other;
+  same_disks = holds.same_disks;
   by = by_same steady store.names state.p.volumes state.p.groups store.places places store.group same holds.by;
 }
 
 -- a store in which the disk of a volume that serves as nothing is another, and the state in which that volume is
 pub holds_plain : (steady : Bool) (store : StoreView) (s t : State) (k : ℕ) (p : Place Seen) (v w : VolumeState) → Holds steady store s → role_by store.group k ≡ Plain → slice_get s.p.volumes k ≡ Some v
-    → t.p.volumes ≡ slice_set s.p.volumes k w → t.p.groups ≡ s.p.groups → t.s ≡ s.s → w.name ≡ v.name → w.blocks ≡ v.blocks → shown p ≡ expected steady w → Holds steady (record store { places = slice_set store.places k p }) t
-holds_plain steady store s t k p v w holds plain there volumes groups other name blocks is =
+    → t.p.volumes ≡ slice_set s.p.volumes k w → t.p.groups ≡ s.p.groups → t.p.state_disks ≡ s.p.state_disks → t.s ≡ s.s → w.name ≡ v.name → w.blocks ≡ v.blocks → shown p ≡ expected steady w → Holds steady (record store { places = slice_set store.places k p }) t
+holds_plain steady store s t k p v w holds plain there volumes groups disks other name blocks is =
     let by = by_changed steady store.names s.p.volumes s.p.groups store.places k p w is store.group plain holds.by in
-    holds_changed s.p.volumes k v w there steady store s t (slice_set store.places k p) store.group holds refl volumes other name blocks
+    holds_changed s.p.volumes k v w there steady store s t (slice_set store.places k p) store.group holds refl volumes other name blocks (holds.same_disks ∙ sym disks)
     (subst (λ (vs : List VolumeState). HoldsBy steady store.names (slice_set store.places k p) store.group vs t.p.groups) (sym volumes)
     (subst (λ (gs : List ShadowGroup). HoldsBy steady store.names (slice_set store.places k p) store.group (slice_set s.p.volumes k w) gs) (sym groups) by))
 

@@ -19,13 +19,13 @@ use Rattle.avs_model.specs.Shadows.{GroupState}
 use Rattle.avs_model.specs.Stages.{after_stage}
 use Rattle.avs_model.specs.Stages.Stage.{Make}
 use Rattle.avs_model.specs.State.{HostState, ShadowGroup, State, VolumeState, all_blocks, volume_of}
-use Rattle.avs_model.specs.declared.answer.Refusal.TheVariants.{Down, Exists, Limit, Size}
+use Rattle.avs_model.specs.declared.answer.Refusal.TheVariants.{Exists, Limit, Size}
 use Rattle.avs_model.specs.declared.event.Event.TheVariants.{Volume}
 use Rattle.avs_model.specs.declared.event.Host.TheVariants.{P}
 use Rattle.avs_ii.specs.Meaning.{meaning}
 use Rattle.avs_ii.specs.Parts.{PartDisks, meaning_of_parts, parts_of}
 use Rattle.avs_world.proofs.Holding.{ArePlaces, are_places, volume_named}
-use Rattle.avs_world.specs.Holds.{AreGroups, Holds, HoldsBy, HoldsSet, IsNamed, IsSetOf, Shown, expected, gone, group_with, kept, is_enabled, name_at, plain, plain_or_gone, shown, shown_with}
+use Rattle.avs_world.specs.Holds.{AreGroups, Holds, HoldsBy, HoldsSet, IsNamed, IsSetOf, Shown, expected, gone, group_with, kept, is_enabled, name_at, plain, plain_or_gone, shown, shown_with, disks_made}
 use Rattle.avs_world.specs.Views.{FourDisks, GroupView, NoGroup, FreeDisk, InMemory, OnDisks, StoreView}
 use Rattle.avs_world.specs.declared.group.ShadowSet.{ShadowSet}
 use Rattle.avs_world.specs.declared.place.Place.{Place}
@@ -34,9 +34,6 @@ use Rattle.avs_world.specs.declared.place.Place.TheVariants.{Here}
 -- ---- the refusals of a new volume
 
 module _ (s : State) (name : List ℕ) (n : ℕ) where
-  pub volume_down : s.p.up ≡ false → refusal s (Volume P name n) ≡ Some (Down P)
-  volume_down down = grind (arith, nat_tests)
-
   pub volume_exists : s.p.up ≡ true → is_some (volume_of s.p name) ≡ true → refusal s (Volume P name n) ≡ Some Exists
   volume_exists up there = grind (arith, nat_tests)
 
@@ -198,6 +195,7 @@ holds_made rack old new s name d n tells some is holds names places blocks group
       same_names = names ∙ ap (λ (l : List (List ℕ)). l ++ name ∷ []) holds.same_names ∙ sym (map_push (λ (w : VolumeState). w.name) s.p.volumes v);
       same_blocks = omega (arith, blocks, holds.same_blocks, ap (λ (x : Seen). x.size) is, sum_by_push (λ (w : VolumeState). w.blocks) s.p.volumes v);
       no_other = holds.no_other;
+      same_disks = ap disks_made group ∙ holds.same_disks;
       by = subst (λ (l : List (List ℕ)). HoldsBy rack.steady l new.places new.group volumes s.p.groups) (sym names)
           (subst (λ (l : List (Place Seen)). HoldsBy rack.steady (old.names ++ name ∷ []) l new.group volumes s.p.groups) (sym places)
           (subst (λ (g : GroupView). HoldsBy rack.steady (old.names ++ name ∷ []) (old.places ++ Here d ∷ []) g volumes s.p.groups) (sym group) by));

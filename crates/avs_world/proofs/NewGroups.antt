@@ -137,7 +137,8 @@ module _ (disk : Seen) (held mid next : IiDisks) (master shadow bitmap : Seen) (
 
       pub new_whole : AreWhole (parts_of new)
       new_whole =
-          confirms.whole one enables.pending (sound told told_master told_shadow told_bitmap) (fresh told told_master told_shadow told_bitmap) (are_told told told_master told_shadow told_bitmap)
+          let again = confirms.whole one enables.pending (fresh told told_master told_shadow told_bitmap) in
+          again.after (are_told told told_master told_shadow told_bitmap) (again.before (sound told told_master told_shadow told_bitmap))
 
       pub new_state_disk : (steady : Bool) → IsStateDisk steady disk → IsStateDisk steady new.state
       new_state_disk steady was = record { told = new_told.state; room = omega (arith, was.room, new_size); same = new_steady ∙ was.same }

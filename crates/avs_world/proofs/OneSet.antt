@@ -1,10 +1,11 @@
 -- A group in memory that holds one enabled set.
-use Rattle.std.proofs.Common.{◌≡◌, ℕ, Bool, true, false, ◌==◌, Option, Some, None, List, [], ◌∷◌, map, get_or, refl, ◌∙◌, ap}
+use Rattle.std.proofs.Common.{◌≡◌, ◌≢◌, ℕ, Bool, true, false, ◌==◌, Option, Some, None, List, [], ◌∷◌, map, get_or, refl, ◌∙◌, ap}
 use Rattle.std.specs.Prelude.{if◌then◌else◌}
 use Rattle.std.specs.List.{find, slice_get, position}
-use Rattle.std.specs.Option.{option_map_or}
+use Rattle.std.specs.Option.{option_map, option_map_or}
 use Rattle.std.specs.Str.{bytes_eq}
-use Rattle.std.proofs.lemmas.Bool.{cond-true, eq-eqb, eqb-true}
+use Rattle.std.proofs.lemmas.Bool.{cond-true, cond-false, eq-eqb, eqb-true, ne_eqb}
+use Rattle.std.proofs.lemmas.Option.{same_Some}
 use Rattle.avs_dev.specs.Seen.{Seen}
 use Rattle.avs_code.specs.declared.slot_table.Slot.{Slot}
 use Rattle.avs_model.specs.Shadows.{ShadowState, blocks_at}
@@ -28,6 +29,11 @@ pub one_element : {X Y : Type 0} (f : X → Y) (xs : List X) (y : Y) → map f x
 one_element f [] y is = absurd (cc)
 one_element f (x ∷ []) y is = (x, (refl, ap (λ l. get_or l 0 y) is))
 one_element f (x ∷ z ∷ xs) y is = absurd (cc)
+
+-- an option of which f makes something
+pub one_there : {X Y : Type 0} (f : X → Y) (o : Option X) (y : Y) → option_map f o ≡ Some y → (x : X) × (o ≡ Some x) × (f x ≡ y)
+one_there f None y is = let e : None ≡ Some y = is in absurd (cc)
+one_there f (Some x) y is = (x, refl, same_Some (f x) y is)
 
 -- the group with its one set
 pub record IsOneSet (set : ShadowSet) (disks : FourDisks) (held : IiDisks) : Type 0 where
@@ -99,6 +105,19 @@ module _ (set : ShadowSet) (k : ℕ) where
 
   pub at_bitmap : role_in set k ≡ Bitmap → k ≡ set.bitmap
   at_bitmap = all_roles.1.1
+
+-- and what they serve as
+pub role_master : (set : ShadowSet) → role_in set set.master ≡ Master
+role_master set = cond-true (set.master == set.master) Master _ (eq-eqb set.master set.master refl)
+
+pub role_shadow : (set : ShadowSet) → set.shadow ≢ set.master → role_in set set.shadow ≡ Shadow
+role_shadow set differs = cond-false (set.shadow == set.master) Master _ (ne_eqb set.shadow set.master differs) ∙ cond-true (set.shadow == set.shadow) Shadow _ (eq-eqb set.shadow set.shadow refl)
+
+pub role_bitmap : (set : ShadowSet) → set.bitmap ≢ set.master → set.bitmap ≢ set.shadow → role_in set set.bitmap ≡ Bitmap
+role_bitmap set master shadow =
+    cond-false (set.bitmap == set.master) Master _ (ne_eqb set.bitmap set.master master)
+    ∙ cond-false (set.bitmap == set.shadow) Shadow _ (ne_eqb set.bitmap set.shadow shadow)
+    ∙ cond-true (set.bitmap == set.bitmap) Bitmap Plain (eq-eqb set.bitmap set.bitmap refl)
 
 -- the volumes of an enabled set, found under their names
 module _ (steady : Bool) (names : List (List ℕ)) (host : HostState) (places : List (Place Seen)) (set : ShadowSet) (disks : FourDisks) (live : Bool)

@@ -1,5 +1,5 @@
 -- How the enabling of a set ends: it is done, or a fault stops it before its commit, or in the midst of that.
-use Rattle.std.proofs.Common.{◌≡◌, ◌⊎◌, ℕ, ◌+◌, Bool, true, false, not, Option, Some, None, List, [], ◌∷◌, ◌++◌, map, refl, sym, ◌∙◌, ap, subst, inl, inr}
+use Rattle.std.proofs.Common.{◌≡◌, ◌⊎◌, ℕ, ◌+◌, Bool, true, false, not, Option, Some, None, List, [], ◌∷◌, ◌++◌, map, refl, sym, ◌∙◌, ap, inl, inr}
 use Rattle.std.specs.Prelude.{IsTrue, ◌&&◌, Result, Ok, Err, slice_set}
 use Rattle.std.specs.List.{sum_by, slice_get, position}
 use Rattle.std.specs.Option.{option_map_or}
@@ -15,7 +15,7 @@ use Rattle.avs_model.specs.Stages.{StoppedIn, command_stages, after_stage, after
 use Rattle.avs_model.specs.Stages.Stage.{Spend}
 use Rattle.avs_model.specs.Refusals.{refusal}
 use Rattle.avs_model.specs.Right.{MeetsTear}
-use Rattle.avs_model.specs.Next.{brought_down, TearUsed}
+use Rattle.avs_model.specs.Next.{with_disk_asked, brought_down, TearUsed}
 use Rattle.avs_model.specs.Good.{Step}
 use Rattle.avs_model.specs.declared.event.Host.TheVariants.{P}
 use Rattle.avs_model.specs.declared.event.IiCommand.{IiCommand}
@@ -35,11 +35,17 @@ use Rattle.avs_ii.specs.Calls.{Adds, Enables, Confirms, block_with}
 use Rattle.avs_world.specs.declared.enabling.Chosen.{Chosen}
 use Rattle.avs_world.specs.declared.group.ShadowSet.{ShadowSet}
 use Rattle.avs_world.specs.Views.{GroupView, FreeDisk, InMemory, OnDisks, StoreView, FourDisks, one_set, IsSameApart}
-use Rattle.avs_world.specs.Holds.{Shown, gone, expected, shown_with, Holds, HoldsBy, HoldsSet, AreGroups, IsStateDisk, IsSetOf, IsOpen, IsApart, is_enabled, group_with, name_at}
+use Rattle.avs_world.specs.Holds.{Shown, gone, expected, shown_with, Holds, HoldsBy, HoldsSet, AreGroups, IsStateDisk, IsSetOf, IsOpen, IsApart, is_enabled, group_with, name_at, disks_made}
 use Rattle.avs_world.specs.Enabling.{IsChosen, places_lent, places_back, set_of}
+use Rattle.avs_world.proofs.Choosing.{one_disk}
 use Rattle.avs_world.proofs.Holding.{use_alone, holds_changed}
 use Rattle.avs_world.proofs.NewGroups.{new_state, one, sound, fresh, live, new_disks, new_parts, new_told, new_whole, new_state_disk, new_meaning, new_in_memory, is_live_by, first_slot, writes, old_armed, old_steady}
+use Rattle.avs_world.proofs.Holding.{set_holds}
 use Rattle.avs_world.proofs.Enabled.{DiskOf, spend, unarm, none_before, here, of_master, of_bitmap, master_of, shadow_of, bitmap_of, named, is_named, with_bitmap, with_all, master_there, master_place, all_held, all_names, all_blocks_same, live_shown, pending_shown, back_shown, disk_told, gone_is}
+
+-- all of a command is done
+abbrev pub after_command : State → IiCommand → State
+after_command state command = after_stages (with_disk_asked state (Ii P command)) (command_stages P command)
 
 -- a fault stopped the command: what its disks hold, and the state then
 pub record Falls (steady : Bool) (state : State) (command : IiCommand) (store : StoreView) : Type 0 where
@@ -52,15 +58,19 @@ pub record Falls (steady : Bool) (state : State) (command : IiCommand) (store : 
   pub stopped : next.p.stopped ≡ Some (Ii P command)
   pub none : next.p.groups ≡ []
 
+-- the host is down, with that command
+abbrev stopped_at : State → IiCommand → State
+stopped_at mid command = brought_down (with_disk_asked mid (Ii P command)) P (Ii P command)
+
 -- by whether a tear was met
 may_fail : (steady : Bool) (state : State) (event : Event) (mid : State) → TearUsed steady state event P mid → (steady ≡ false) ⊎ MeetsTear state event P
 may_fail steady state event mid (inl met) = inr met.0
 may_fail steady state event mid (inr unsteady) = inl unsteady.0
 
 falls : (steady : Bool) (state : State) (command : IiCommand) (store : StoreView) (mid left : State) → refusal state (Ii P command) ≡ None → TearUsed steady state (Ii P command) P mid → mid.p.groups ≡ []
-    → StoppedIn (brought_down mid P (Ii P command)) (command_stages P command) left → Holds steady store left → Falls steady state command store
+    → StoppedIn (stopped_at mid command) (command_stages P command) left → Holds steady store left → Falls steady state command store
 falls steady state command store mid left passes tear none stopped holds = record {
-  next = brought_down mid P (Ii P command);
+  next = stopped_at mid command;
   step = record {
     right = record { passes = passes; uses = refl; may_fail = may_fail steady state (Ii P command) mid tear };
     next = record { left = mid; tear = tear; down = refl };
@@ -85,17 +95,21 @@ module _ (steady : Bool) (store : StoreView) (state : State) (master shadow bitm
   none : state.p.groups ≡ []
   none = none_before steady store state master shadow bitmap chosen is holds
 
+  one_made : 1 ≡ (with_disk_asked state (Ii P command)).p.state_disks
+  one_made = one_disk store.group state.p is.free holds.same_disks none
+
   abbrev vb : VolumeState
   vb = (of_bitmap steady store state master shadow bitmap chosen is holds).volume
 
   -- no group was made on the state disk
   pub start_falls : (left : Seen) → steady ≡ false → IsStateDisk steady left → Falls steady state command (record store { group = FreeDisk left })
   start_falls left unsteady disk =
-      falls steady state command (record store { group = FreeDisk left }) state (brought_down state P (Ii P command)) passes (inr (unsteady, refl)) none (inl refl)
+      falls steady state command (record store { group = FreeDisk left }) state (stopped_at state command) passes (inr (unsteady, refl)) none (inl refl)
       (record {
         same_names = holds.same_names;
         same_blocks = holds.same_blocks;
         no_other = holds.no_other;
+        same_disks = one_made;
         by = (here steady store state master shadow bitmap chosen is holds, (none, (disk, λ e. absurd (false≢true (sym unsteady ∙ e)))));
       })
 
@@ -105,9 +119,9 @@ module _ (steady : Bool) (store : StoreView) (state : State) (master shadow bitm
     back = record store { places = places_back (places_lent store.places chosen) (set_of name chosen is.three.shadow_spent) is.three.master_disk is.three.shadow_disk new; group = FreeDisk disk }
 
     back_holds : (w : VolumeState) (left : State) → w.name ≡ vb.name → w.blocks ≡ vb.blocks → gone new ≡ expected steady w → left.p.volumes ≡ slice_set state.p.volumes chosen.bitmap w → left.p.groups ≡ state.p.groups
-        → left.s ≡ state.s → Holds steady back left
-    back_holds w left name_same blocks shows volumes groups other =
-        holds_changed state.p.volumes chosen.bitmap vb w (of_bitmap steady store state master shadow bitmap chosen is holds).there steady store state left back.places back.group holds refl volumes other name_same blocks
+        → 1 ≡ left.p.state_disks → left.s ≡ state.s → Holds steady back left
+    back_holds w left name_same blocks shows volumes groups disks other =
+        holds_changed state.p.volumes chosen.bitmap vb w (of_bitmap steady store state master shadow bitmap chosen is holds).there steady store state left back.places back.group holds refl volumes other name_same blocks disks
         (back_shown steady store state master shadow bitmap chosen is holds w name_same blocks new shows name ∙ ap (map (expected steady)) (sym volumes), (groups ∙ none, (state_disk, unarmed)))
 
     of_disk : DiskOf steady is.three.bitmap_disk vb
@@ -126,9 +140,9 @@ module _ (steady : Bool) (store : StoreView) (state : State) (master shadow bitm
         let quiet : (new.steady && new.armed) ≡ (steady && false) = ap (λ b. new.steady && b) (not_true new.armed uses.is_used) ∙ no_and new.steady ∙ sym (no_and steady) in
         let volumes : with_volume_of (with_volume_of state.p.volumes bitmap unarm) bitmap spend ≡ slice_set state.p.volumes chosen.bitmap w =
         changed_twice bitmap unarm (λ v. refl) state.p.volumes spend ∙ with_volume_of-place state.p.volumes bitmap (λ v. spend (unarm v)) chosen.bitmap vb found.here found.there in
-        falls steady state command back mid (after_stage (brought_down mid P (Ii P command)) (Spend P bitmap)) passes (inl (record { disk = OfVolume bitmap; writes = (refl, refl); armed = armed }, refl)) none
+        falls steady state command back mid (after_stage (stopped_at mid command) (Spend P bitmap)) passes (inl (record { disk = OfVolume bitmap; writes = (refl, refl); armed = armed }, refl)) none
         (inr (inr (inl refl)))
-        (back_holds w (after_stage (brought_down mid P (Ii P command)) (Spend P bitmap)) refl refl (gone_is steady is.three.bitmap_disk vb of_disk new w same refl refl refl quiet) volumes refl refl)
+        (back_holds w (after_stage (stopped_at mid command) (Spend P bitmap)) refl refl (gone_is steady is.three.bitmap_disk vb of_disk new w same refl refl refl quiet) volumes refl one_made refl)
       where
         not_true : (b : Bool) → not b ≡ true → b ≡ false
         not_true true e = absurd (false≢true e)
@@ -139,9 +153,9 @@ module _ (steady : Bool) (store : StoreView) (state : State) (master shadow bitm
         let found = of_bitmap steady store state master shadow bitmap chosen is holds in
         let w = spend vb in
         let quiet : (new.steady && new.armed) ≡ (steady && vb.armed) = ap (λ b. b && new.armed) (same.steady ∙ of_disk.same ∙ unsteady) ∙ ap (λ b. b && vb.armed) (sym unsteady) in
-        falls steady state command back state (after_stage (brought_down state P (Ii P command)) (Spend P bitmap)) passes (inr (unsteady, refl)) none (inr (inr (inl refl)))
-        (back_holds w (after_stage (brought_down state P (Ii P command)) (Spend P bitmap)) refl refl (gone_is steady is.three.bitmap_disk vb of_disk new w same refl refl refl quiet)
-        (with_volume_of-place state.p.volumes bitmap spend chosen.bitmap vb found.here found.there) refl refl)
+        falls steady state command back state (after_stage (stopped_at state command) (Spend P bitmap)) passes (inr (unsteady, refl)) none (inr (inr (inl refl)))
+        (back_holds w (after_stage (stopped_at state command) (Spend P bitmap)) refl refl (gone_is steady is.three.bitmap_disk vb of_disk new w same refl refl refl quiet)
+        (with_volume_of-place state.p.volumes bitmap spend chosen.bitmap vb found.here found.there) refl one_made refl)
 
     pub back_falls : (IsTrue is.three.bitmap_disk.steady → UsesTear is.three.bitmap_disk new) → Falls steady state command back
     back_falls used = elim (cases_Bool steady) [
@@ -197,9 +211,9 @@ module _ (steady : Bool) (store : StoreView) (state : State) (master shadow bitm
         let of_disk = bitmap_of steady store state master shadow bitmap chosen is holds in
         gone_is steady is.three.bitmap_disk vb of_disk disks.bitmap (spend vb) enables.makes.disk refl refl refl ((λ i. enables.makes.disk.steady i && enables.makes.armed i) ∙ of_disk.armed)
 
-    -- the host as it is, up or down, behind the stages
+    -- the host with a disk for the state, up or down, behind the stages
     abbrev base : Bool → Option Event → State
-    base up stopped = record state { p = record state.p { up = up; stopped = stopped } }
+    base up stopped = let with_disk = with_disk_asked state (Ii P command) in record with_disk { p = record with_disk.p { up = up; stopped = stopped } }
 
     abbrev spent : Bool → Option Event → State
     spent up stopped = after_stage (base up stopped) (Spend P bitmap)
@@ -256,14 +270,7 @@ module _ (steady : Bool) (store : StoreView) (state : State) (master shadow bitm
     set_held : (b : Bool) (group : GroupState) (volumes : List VolumeState) (groups : List ShadowGroup) → is_enabled set (parts_of new) ≡ b
         → shown_with (places_lent store.places chosen) set disks b ≡ map (expected steady) volumes → AreGroups steady store.names set group new.state b groups
         → HoldsSet steady store.names (places_lent store.places chosen) set (parts_of new) group volumes groups
-    set_held b group volumes groups by shows are = record {
-      disks = disks;
-      is = parts;
-      set_of = of_names;
-      state_disk = new_disk;
-      shows = ap (shown_with (places_lent store.places chosen) set disks) by ∙ shows;
-      are = subst (λ c. AreGroups steady store.names set group new.state c groups) (sym by) are;
-    }
+    set_held b group volumes groups by shows are = set_holds steady store.names (places_lent store.places chosen) set (parts_of new) disks b group volumes groups parts of_names new_disk by shows are
 
     enabled_held : (up : Bool) (stopped : Option Event) (group : GroupState) → is_enabled set (parts_of new) ≡ true → group ≡ new_state is.three.master_disk → (steady ≡ true → new.state.armed ≡ false)
         → HoldsSet steady store.names (places_lent store.places chosen) set (parts_of new) group (done up stopped).p.volumes (done up stopped).p.groups
@@ -283,21 +290,22 @@ module _ (steady : Bool) (store : StoreView) (state : State) (master shadow bitm
     abbrev with_group : GroupView → StoreView
     with_group group = record store { places = places_lent store.places chosen; group = group }
 
-    done_holds : (up : Bool) (stopped : Option Event) (group : GroupView) → HoldsBy steady store.names (places_lent store.places chosen) group (done up stopped).p.volumes (done up stopped).p.groups
+    done_holds : (up : Bool) (stopped : Option Event) (group : GroupView) → disks_made group ≡ 1 → HoldsBy steady store.names (places_lent store.places chosen) group (done up stopped).p.volumes (done up stopped).p.groups
         → Holds steady (with_group group) (done up stopped)
-    done_holds up stopped group by = record {
+    done_holds up stopped group disks by = record {
       same_names = holds.same_names ∙ sym (all_names steady store state master shadow bitmap chosen is holds (spend vb) refl refl) ∙ ap (map (λ (v : VolumeState). v.name)) (sym done_are);
       same_blocks = holds.same_blocks
           ∙ (λ i. (sym (all_blocks_same steady store state master shadow bitmap chosen is holds (spend vb) refl refl) ∙ ap (sum_by (λ (v : VolumeState). v.blocks)) (sym done_are)) i + blocks_on state.s);
       no_other = holds.no_other;
+      same_disks = disks ∙ one_made;
       by = by;
     }
 
-    spent_holds : (up : Bool) (stopped : Option Event) (group : GroupView) → HoldsBy steady store.names (places_lent store.places chosen) group (spent up stopped).p.volumes (spent up stopped).p.groups
+    spent_holds : (up : Bool) (stopped : Option Event) (group : GroupView) → disks_made group ≡ 1 → HoldsBy steady store.names (places_lent store.places chosen) group (spent up stopped).p.volumes (spent up stopped).p.groups
         → Holds steady (with_group group) (spent up stopped)
-    spent_holds up stopped group by =
+    spent_holds up stopped group disks by =
         holds_changed state.p.volumes chosen.bitmap vb (spend vb) (of_bitmap steady store state master shadow bitmap chosen is holds).there steady store state (spent up stopped) (places_lent store.places chosen) group holds refl gone_are refl
-        refl refl by
+        refl refl (disks ∙ one_made) by
 
     sound_before : IsSound next
     sound_before = sound disk held mid next is.three.master_disk is.three.shadow_disk is.three.bitmap_disk slot opens adds enables state_disk.told told_master told_shadow told_bitmap
@@ -337,7 +345,7 @@ module _ (steady : Bool) (store : StoreView) (state : State) (master shadow bitm
 
       pub enabled : Holds steady (with_group (InMemory set new)) (done state.p.up state.p.stopped)
       enabled =
-          done_holds state.p.up state.p.stopped (InMemory set new)
+          done_holds state.p.up state.p.stopped (InMemory set new) refl
           (is_open, enabled_held state.p.up state.p.stopped (meaning new) enabled_on_disk (meant_after enabled_on_disk (inr meant_done)) still_quiet)
 
     -- the state disk failed, which over steady disks it does not
@@ -368,13 +376,13 @@ module _ (steady : Bool) (store : StoreView) (state : State) (master shadow bitm
         | inl stands ↦
             falls steady state command (with_group (OnDisks set (parts_of new))) state (done false (Some (Ii P command))) passes (inr (unsteady, refl)) none (inr (inr (inr (inr refl))))
             (
-            done_holds false (Some (Ii P command)) (OnDisks set (parts_of new))
+            done_holds false (Some (Ii P command)) (OnDisks set (parts_of new)) refl
             (is_apart, enabled_held false (Some (Ii P command)) (meaning_of_parts (parts_of new)) stands (apart.meaning ∙ meant_after stands meant_stopped) (λ e. absurd (false≢true (sym unsteady ∙ e))))
             )
         | inr waits ↦
             falls steady state command (with_group (OnDisks set (parts_of new))) state (spent false (Some (Ii P command))) passes (inr (unsteady, refl)) none (inr (inr (inl refl)))
             (
-            spent_holds false (Some (Ii P command)) (OnDisks set (parts_of new))
+            spent_holds false (Some (Ii P command)) (OnDisks set (parts_of new)) refl
             (is_apart, pending_held false (Some (Ii P command)) (meaning_of_parts (parts_of new)) waits unsteady)
             )
       ]

@@ -7,7 +7,7 @@ use Rattle.avs_dev.specs.Seen.{Seen}
 use Rattle.avs_model.specs.Filling.{fill}
 use Rattle.avs_model.specs.Limits.{longest_write, longest_read}
 use Rattle.avs_model.specs.Shadows.{GroupStage, volume_write_stages, shadow_write_stages}
-use Rattle.avs_model.specs.State.{State, HostState, Use, Alone, MasterIn, ShadowIn, BitmapIn, DiskPlace, OfVolume, OfState, use_of, reach_by, image_of, group_at, slot_of, is_armed, with_armed}
+use Rattle.avs_model.specs.State.{State, Use, Alone, MasterIn, ShadowIn, BitmapIn, DiskPlace, OfVolume, OfState, use_of, reach_by, image_of, group_at, slot_of, is_armed, with_armed}
 use Rattle.avs_model.specs.Stages.{Within, StoppedIn, write_stages, stages, after_stage, after_stages}
 use Rattle.avs_model.specs.Right.{IsWriteDisk, IsWrittenWith, MeetsTear}
 use Rattle.avs_model.specs.Refusals.{place_causes, range_causes, first_cause}
@@ -22,29 +22,15 @@ use Rattle.avs_world.specs.declared.stopped.Stopped.{Stopped}
 use Rattle.avs_world.specs.declared.stopped.Stopped.TheVariants as stopped
 use Rattle.avs_world.specs.declared.stopped.StoppedWrite.{StoppedWrite}
 use Rattle.avs_world.specs.declared.ranges.Target.{Target}
-use Rattle.avs_world.specs.Views.{GroupView, NoGroup, FreeDisk, InMemory, OnDisks, StoreView, view_of, closed, SameApart}
+use Rattle.avs_world.specs.Views.{StoreView, view_of, closed, SameApart}
 use Rattle.avs_world.specs.Holds.{Holds, IsPhase}
-use Rattle.avs_world.specs.Calls.{IsOf, ReadsAt, WriteTear, IsEnabled, WritesAt}
+use Rattle.avs_world.specs.Calls.{IsOf, ReadsAt, WriteTear, WritesAt}
 use Rattle.avs_world.specs.World.{event_of, Keeps, IsThere, IsExplained, Stands}
 use Rattle.avs_world.proofs.Holding.{holds_same_state, holds_apart, phase_apart}
-use Rattle.avs_world.proofs.Standing.{up_none, up_kept, up_holds, up_phase, stands_up}
+use Rattle.avs_world.proofs.Standing.{explained_apart, up_none, up_kept, up_holds, up_phase, stands_up, stands_down}
 use Rattle.avs_world.proofs.Ranging.{range_passed}
 use Rattle.avs_world.proofs.SamePlaces.{same_place}
 use Rattle.avs_world.proofs.Writing.{enabled_up}
-
--- a set that is enabled needs no telling, when its group is taken apart
-explained_apart : (group : GroupView) (held : HostState) → IsEnabled group → IsExplained (closed group) held
-explained_apart NoGroup held enabled = tt
-explained_apart (FreeDisk disk) held enabled = tt
-explained_apart (InMemory set group) held enabled = λ off. absurd (false≢true (sym off ∙ enabled))
-explained_apart (OnDisks set parts) held enabled = λ off. absurd (false≢true (sym off ∙ enabled))
-
--- on its disks it stays
-phase_closed : (group : GroupView) → IsPhase false group → IsPhase false (closed group)
-phase_closed NoGroup phase = phase
-phase_closed (FreeDisk disk) phase = phase
-phase_closed (InMemory set held) phase = absurd (false≢true phase)
-phase_closed (OnDisks set parts) phase = phase
 
 -- the range of a write is there
 abbrev IsRangeThere : Event → State → Type 0
@@ -117,9 +103,9 @@ module _ {D : Type 0} (seen : D → Seen) (steady : Bool) (old : World D) (s : S
           stopped = refl;
           there = subst (λ (o : Option Stopped). IsThere o next) (sym clear) tt;
           holds = subst (λ (v : StoreView). Holds steady v next) (sym apart)
-              (holds_apart steady (view_of seen mid) next same (holds_same_state steady (view_of seen mid) s next refl refl refl held));
+              (holds_apart steady (view_of seen mid) next same (holds_same_state steady (view_of seen mid) s next refl refl refl refl held));
           phase = subst (λ (b : Bool). IsPhase b (view_of seen new).group) (sym down)
-              (subst (λ (v : StoreView). IsPhase false v.group) (sym apart) (phase_apart (view_of seen mid).group left_phase));
+              (subst (λ (v : StoreView). IsPhase false v.group) (sym apart) (phase_apart (view_of seen mid).group));
           explained = subst (λ (v : StoreView). IsExplained v.group next.p) (sym apart)
               (explained_apart (view_of seen mid).group next.p (enabled_up steady (view_of seen mid) s held left_phase));
         },
@@ -184,7 +170,7 @@ module _ {D : Type 0} (seen : D → Seen) (steady : Bool) (old : World D) (s : S
         → view_of seen new ≡ record (view_of seen mid) { group = closed (view_of seen mid).group } → SameApart (view_of seen mid).group → new.up ≡ false → new.stopped ≡ Some (stopped.Write write)
         → event_of write ≡ Write P name at len pattern → (next : State) × (Step steady s (Write P name at len pattern) (Faulted P) next) × (Stands seen steady new next)
     write_stopped mid new target bytes e write passes sought writes filled apart same down kept event_is =
-        let stops = writes.stopped steady fallen name (holds_same_state steady (view_of seen old) s fallen refl refl refl holds) sought in
+        let stops = writes.stopped steady fallen name (holds_same_state steady (view_of seen old) s fallen refl refl refl refl holds) sought in
         let tear = met stops.mid stops.tear in
         let next = brought_down tear.mid P event in
         let left = stops.left in
@@ -198,17 +184,7 @@ module _ {D : Type 0} (seen : D → Seen) (steady : Bool) (old : World D) (s : S
             right = record { passes = passes; uses = refl; may_fail = tear.fails };
             next = record { left = tear.mid; tear = tear.used; down = refl };
           },
-          record {
-            up = down;
-            none_stopped = λ is. absurd (false≢true is);
-            keeps = subst (λ (o : Option Stopped). Keeps o next.p) (sym kept) (ap (λ (x : Event). Some x) (sym event_is));
-            left = left;
-            stopped = done;
-            there = subst (λ (o : Option Stopped). IsThere o left) (sym kept) (subst (λ (x : Event). IsRangeThere x left) (sym event_is) there);
-            holds = subst (λ (v : StoreView). Holds steady v left) (sym apart) (holds_apart steady (view_of seen mid) left same stops.holds);
-            phase = subst (λ (b : Bool). IsPhase b (view_of seen new).group) (sym down)
-                (subst (λ (v : StoreView). IsPhase false v.group) (sym apart) (phase_closed (view_of seen mid).group (writes.apart phase)));
-            explained = subst (λ (v : StoreView). IsExplained v.group next.p) (sym apart)
-                (explained_apart (view_of seen mid).group next.p (writes.enabled steady s holds phase));
-          },
+          stands_down seen steady new next (view_of seen mid) left down refl apart same (subst (λ (o : Option Stopped). Keeps o next.p) (sym kept) (ap (λ (x : Event). Some x) (sym event_is))) done
+              (subst (λ (o : Option Stopped). IsThere o left) (sym kept) (subst (λ (x : Event). IsRangeThere x left) (sym event_is) there)) stops.holds
+              (explained_apart (view_of seen mid).group next.p (writes.enabled steady s holds phase)),
         )

@@ -1,7 +1,7 @@
 -- What reading blocks of a volume makes of a store.
 use Rattle.std.proofs.Common.{◌≡◌, ◌⊎◌, ℕ, zero, suc, ◌+◌, ◌/◌, ◌<◌, ◌≤◌, Bool, true, false, Option, None, Some, Ok, Err, List, [], ◌∷◌, length, map, slice_index, refl, sym, ◌∙◌, ap, subst, inl, inr, arith}
 use Rattle.std.specs.Prelude.{IsTrue, Result, OnErr, IsOk, slice_set, is_some, ◌||◌, ◌==◌}
-use Rattle.std.specs.List.{slice_get, position}
+use Rattle.std.specs.List.{slice_get, position, list_all}
 use Rattle.std.specs.Option.{option_map_or}
 use Rattle.std.specs.Str.{bytes_eq}
 use Rattle.std.proofs.lemmas.Bool.{false≢true}
@@ -31,11 +31,11 @@ use Rattle.avs_world.specs.Views.{GroupView, NoGroup, FreeDisk, InMemory, OnDisk
 use Rattle.avs_world.specs.Ranges.{role_in, role_by, disk_here, is_gone, group_size_of, group_size, reach, IsReached}
 use Rattle.avs_world.specs.Causes.{AtPlace, InGroup, group_disks, faults_of, DiskRose}
 use Rattle.avs_world.specs.Places.{HasRange, ReadsPlace, places_with, with_disk}
-use Rattle.avs_world.specs.Holds.{Shown, plain, gone, shown, group_with, is_enabled, IsSetOf, AreGroups, HoldsSet, IsOpen, HoldsBy, Holds, IsPhase}
+use Rattle.avs_world.specs.Holds.{Shown, plain, gone, shown, group_with, is_enabled, IsSetOf, AreGroups, HoldsSet, IsOpen, HoldsBy, Holds, IsPhase, disks_made}
 use Rattle.avs_world.specs.Calls.{IsOf, ReadsMaster, ReadsShadow, ReadsAt}
-use Rattle.avs_world.proofs.Holding.{Found, found_plain, plain_shown, volume_shown, slice_get-set, shown_same, holds_same_shown, use_in_set, use_alone, use_as}
-use Rattle.avs_world.proofs.Tears.{open_groups}
-use Rattle.avs_world.proofs.Staying.{KeepsGroup, set_with, shown_unarmed, still_live, still_enabled, are_steady_in, count_at}
+use Rattle.avs_world.proofs.Holding.{Found, found_plain, plain_shown, volume_shown, slice_get-set, shown_same, holds_same_shown, open_groups, use_in_set, use_alone, use_as}
+use Rattle.avs_world.proofs.Tears.{four_list}
+use Rattle.avs_world.proofs.Staying.{KeepsGroup, set_with, shown_unarmed, still_live, still_enabled, four_steady, count_at}
 
 -- Places.
 
@@ -238,6 +238,7 @@ group_reads steady old set held new state was is holds = record {
   same_names = holds.same_names;
   same_blocks = holds.same_blocks;
   no_other = holds.no_other;
+  same_disks = sym (ap disks_made was) ∙ holds.same_disks;
   by = by_read steady old.names old.places set held new state.p.volumes state.p.groups is
       (subst (λ (g : GroupView). HoldsBy steady old.names old.places g state.p.volumes state.p.groups) was holds.by);
 }
@@ -269,9 +270,9 @@ pub group_held : (steady : Bool) (store : StoreView) (set : ShadowSet) (held : I
 group_held steady store set held state is holds = subst (λ (g : GroupView). HoldsBy steady store.names store.places g state.p.volumes state.p.groups) is holds.by
 
 pub all_steady : (steady : Bool) (store : StoreView) (set : ShadowSet) (held : IiDisks) (state : State) → store.group ≡ InMemory set held → Holds steady store state → steady ≡ true → IsTrue (are_steady held)
-all_steady steady store set held state is holds =
+all_steady steady store set held state is holds is_steady =
     let by = group_held steady store set held state is holds in
-    are_steady_in store.names state.p store.places set held (meaning held) state.p.groups holds.same_names by.0 steady by.1
+    ap (list_all (λ (d : Seen). d.steady)) (four_list held set.slot by.1.disks by.1.is) ∙ four_steady steady store.names state.p store.places set (parts_of held) (meaning held) holds.same_names by.1 is_steady
 
 -- the state's group, and the use of its volumes
 module _ (steady : Bool) (store : StoreView) (set : ShadowSet) (held : IiDisks) (state : State) (is : store.group ≡ InMemory set held) (holds : Holds steady store state) where

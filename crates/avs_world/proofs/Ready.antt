@@ -1,5 +1,5 @@
 -- How many blocks of a volume can be read and written, by the store and by the state.
-use Rattle.std.proofs.Common.{◌≡◌, ℕ, ◌<◌, Bool, true, false, Option, Some, List, [], length, map, refl, sym, ◌∙◌, ap, subst}
+use Rattle.std.proofs.Common.{◌≡◌, ℕ, ◌<◌, Bool, true, false, Option, Some, List, [], length, map, sym, ◌∙◌, ap}
 use Rattle.std.specs.Prelude.{slice_index_or}
 use Rattle.std.specs.List.{slice_get, position}
 use Rattle.std.specs.Option.{is_some, option_map_or}
@@ -13,27 +13,14 @@ use Rattle.avs_model.specs.Refusals.{is_bitmap}
 use Rattle.avs_model.specs.declared.answer.Role.{Role}
 use Rattle.avs_model.specs.declared.answer.Role.TheVariants.{Master, Shadow, Bitmap, Plain}
 use Rattle.avs_ii.specs.Held.{HeldSet}
-use Rattle.avs_ii.specs.Meaning.{meaning}
 use Rattle.avs_ii.specs.Parts.{parts_of}
 use Rattle.avs_world.specs.declared.place.Place.{Place}
-use Rattle.avs_world.specs.declared.place.Place.TheVariants.{Here, Spent, Lent}
 use Rattle.avs_world.specs.Views.{GroupView, NoGroup, FreeDisk, InMemory, OnDisks, StoreView}
-use Rattle.avs_world.specs.Ranges.{role_by, disk_here, is_gone, group_size, reach_by}
-use Rattle.avs_world.specs.Holds.{shown, expected, AreGroups, HoldsBy, Holds, IsPhase, is_enabled}
-use Rattle.avs_world.proofs.Holding.{element, volume_named, not_lent, use_as, use_by_place, found_plain}
+use Rattle.avs_world.specs.Ranges.{role_by, is_gone, group_size, reach_by}
+use Rattle.avs_world.specs.Holds.{HoldsBy, Holds, IsPhase, is_enabled}
+use Rattle.avs_world.proofs.Holding.{element, volume_named, use_as, use_by_place, found_plain, open_groups, size_at, gone_at}
 use Rattle.avs_world.proofs.OneSet.{one_held, set_there, blocks_meant, found_master, found_shadow}
 use Rattle.avs_world.proofs.Ranging.{IsReady}
-
--- a disk that is here
-size_shown : (steady : Bool) (v : VolumeState) (p : Place Seen) → shown p ≡ expected steady v → option_map_or (λ (d : Seen). d.size) (disk_here (Some p)) 0 ≡ (shown p).size
-size_shown steady v (Here d) is = refl
-size_shown steady v (Spent d) is = refl
-size_shown steady v Lent is = absurd (not_lent steady v is)
-
-spent_shown : (p : Place Seen) → is_gone (Some p) ≡ (shown p).spent
-spent_shown (Here d) = refl
-spent_shown (Spent d) = refl
-spent_shown Lent = refl
 
 -- only contents of a volume that serves as nothing are gone
 abbrev pub gone_as : Role → Bool → Bool
@@ -44,7 +31,8 @@ gone_as Bitmap gone = false
 
 module _ (steady : Bool) (names : List (List ℕ)) (places : List (Place Seen)) (host : HostState) (name : List ℕ) (k : ℕ) (same : names ≡ map (λ (v : VolumeState). v.name) host.volumes)
     (sought : position (bytes_eq name) names ≡ Some k) where
-  master_size : (group : GroupView) → HoldsBy steady names places group host.volumes host.groups → IsPhase true group → role_by group k ≡ Master
+  -- the master of a group in memory has the blocks of its volume, and its contents
+  pub master_size : (group : GroupView) → HoldsBy steady names places group host.volumes host.groups → IsPhase true group → role_by group k ≡ Master
       → (size_of host name ≡ group_size group Master) × (is_spent host name ≡ false)
   master_size NoGroup by phase role = absurd (cc)
   master_size (FreeDisk disk) by phase role = absurd (cc)
@@ -61,7 +49,7 @@ module _ (steady : Bool) (names : List (List ℕ)) (places : List (Place Seen)) 
   shadow_size (InMemory set held) by phase role =
       let one = one_held set by.1.disks held by.1.is in
       let f = found_shadow steady names host places set by.1.disks (is_enabled set (parts_of held)) same by.1.shows by.1.set_of by.0.on_disk name k sought role in
-      let are = subst (λ b. AreGroups steady names set (meaning held) by.1.disks.state b host.groups) by.0.on_disk by.1.are in
+      let are = open_groups steady names places set held host.volumes host.groups by.0 by.1 in
       let reach : List ShadowGroup → ℕ =
       λ groups. let g = slice_index_or groups 0 (record { name = []; masters = []; sets = []; state = bare_group []; armed = false }) in blocks_at g.state.sets (slot_of g 0) in (
         ap reach are.1
@@ -89,8 +77,8 @@ module _ (steady : Bool) (store : StoreView) (s : State) (name : List ℕ) (k : 
       record {
         there = volume_is;
         other = ap is_bitmap (used_as Plain is);
-        reached = ap (state.reach_by s.p name) (used_as Plain is) ∙ sym f.size ∙ sym (size_shown steady f.volume at.0 f.is) ∙ sym (ap (λ (o : Option (Place Seen)). option_map_or (λ (d : Seen). d.size) (disk_here o) 0) at.1);
-        gone = sym f.spent ∙ sym (spent_shown at.0) ∙ sym (ap is_gone at.1);
+        reached = ap (state.reach_by s.p name) (used_as Plain is) ∙ sym f.size ∙ sym (size_at store.places k at.0 at.1);
+        gone = sym f.spent ∙ sym (gone_at store.places k at.0 at.1);
       }
   ready_as Master is other within =
       let m = master_size steady store.names store.places s.p name k holds.same_names sought store.group holds.by phase is in

@@ -1,12 +1,11 @@
 -- What a recovery tells of, and the state that it leaves.
-use Rattle.std.proofs.Common.{◌≡◌, ◌≢◌, ℕ, ◌≤◌, Bool, true, false, not, cond, Option, Some, None, Result, Ok, Err, List, [], ◌∷◌, ◌++◌, length, map, replicate, refl, sym, ◌∙◌, ap, subst, inl, inr, arith}
+use Rattle.std.proofs.Common.{◌≡◌, ℕ, Bool, true, false, not, cond, Option, Some, None, Result, Ok, Err, List, [], ◌∷◌, ◌++◌, length, map, replicate, refl, sym, ◌∙◌, ap, subst, inl, inr}
 use Rattle.std.specs.Prelude.{find, ◌==◌, ◌||◌, if◌then◌else◌, IsTrue}
-use Rattle.std.specs.List.{flat_map, slice_get}
+use Rattle.std.specs.List.{flat_map}
 use Rattle.std.specs.Option.{option_map, option_map_or, unwrap_or}
 use Rattle.std.specs.Result.{IfOk, OnOk}
-use Rattle.std.proofs.lemmas.Bool.{false≢true, cases_Bool, eqb-true, eq-eqb}
+use Rattle.std.proofs.lemmas.Bool.{false≢true, cases_Bool}
 use Rattle.std.proofs.lemmas.List.{length-set}
-use Rattle.avs_seg.specs.Causes.{Rose}
 use Rattle.avs_seg.specs.Image.{Image}
 use Rattle.avs_dev.specs.Seen.{Seen}
 use Rattle.avs_model.specs.Shadows.{ShadowState, to_copy, to_copy_at}
@@ -27,7 +26,6 @@ use Rattle.avs_model.specs.declared.recovered.Second.{Second}
 use Rattle.avs_model.specs.declared.recovered.Second.TheVariants.{Torn, Kept, Done, Clean}
 use Rattle.avs_model.specs.declared.recovered.Recovered.{Recovered}
 use Rattle.avs_model.specs.declared.answer.Role.{Role}
-use Rattle.avs_model.specs.declared.answer.Role.TheVariants.{Master, Shadow, Bitmap, Plain}
 use Rattle.avs_model.specs.declared.answer.Word.TheVariants.{Up}
 use Rattle.avs_model.specs.declared.answer.Refusal.TheVariants.{WrongState}
 use Rattle.avs_model.specs.declared.answer.Answer.{Answer}
@@ -45,27 +43,25 @@ use Rattle.avs_world.specs.declared.stopped.StoppedWrite.{StoppedWrite}
 use Rattle.avs_world.specs.declared.world.World.{World}
 use Rattle.avs_world.specs.Views.{GroupView, NoGroup, FreeDisk, InMemory, OnDisks, StoreView, store_view, group_view, view_of, closed, SameApart}
 use Rattle.avs_world.specs.Holds.{group_with, name_at, is_enabled, AreGroups, HoldsBy, Holds, IsPhase}
-use Rattle.avs_world.specs.Ranges.{role_in}
-use Rattle.avs_world.specs.Causes.{DiskName, AtPlace, InGroup, DiskRose, FaultHasCause, faults_of, group_disks, was_there}
+use Rattle.avs_world.specs.Causes.{DiskRose, FaultHasCause}
 use Rattle.avs_world.specs.World.{Stands, StopsCommand, Keeps, IsThere, IsExplained, event_of}
 use Rattle.avs_world.specs.Calls.{IsEnabled}
-use Rattle.avs_world.specs.Recovering.{IsLost, IsWaiting, second_by}
-use Rattle.avs_world.proofs.Holding.{use_alone, use_in_set, use_as, holds_same_state, holds_apart, phase_apart}
-use Rattle.avs_world.proofs.Standing.{stands_up}
+use Rattle.avs_world.specs.Recovering.{FailsFinding, IsWaiting, second_by}
+use Rattle.avs_world.proofs.Holding.{use_alone, use_in_set, use_as, holds_same_state}
+use Rattle.avs_world.proofs.EnableSteps.{rose_closed}
+use Rattle.avs_world.proofs.Holding.{open_groups}
+use Rattle.avs_world.proofs.OneSet.{role_shadow}
+use Rattle.avs_world.proofs.Standing.{explained_apart, stands_up, stands_down}
+use Rattle.avs_world.proofs.Writing.{enabled_up}
 
 -- The lines of groups and of sets.
 
--- the group of the state, where one is in memory
-pub group_open : (steady : Bool) (names : List (List ℕ)) (places : List (Place Seen)) (set : ShadowSet) (held : IiDisks) (volumes : List VolumeState) (groups : List ShadowGroup)
-    → HoldsBy steady names places (InMemory set held) volumes groups → (armed : Bool) × (groups ≡ group_with names set (meaning held) armed ∷ [])
-group_open steady names places set held volumes groups by =
-    let are = subst (λ (b : Bool). AreGroups steady names set (meaning held) by.1.disks.state b groups) by.0.on_disk by.1.are in (are.0, are.1)
-
+-- where a group is in memory
 pub open_lines : (steady : Bool) (names : List (List ℕ)) (places : List (Place Seen)) (set : ShadowSet) (held : IiDisks) (volumes : List VolumeState) (groups : List ShadowGroup)
     → HoldsBy steady names places (InMemory set held) volumes groups
     → (map group_line groups ≡ record { group = set.name; session = 0; place = 0 } ∷ []) × (flat_map set_lines groups ≡ record { set = set.name; left = to_copy_at (meaning held).sets set.slot } ∷ [])
 open_lines steady names places set held volumes groups by =
-    let is = group_open steady names places set held volumes groups by in (
+    let is = open_groups steady names places set held volumes groups by.0 by.1 in (
       ap (map group_line) is.1,
       ap (flat_map set_lines) is.1 ∙ ap (λ (n : List ℕ). record { set = n; left = to_copy_at (meaning held).sets set.slot } ∷ []) (sym by.1.set_of.named),
     )
@@ -91,9 +87,6 @@ copied o sets slot is = ap (λ (x : Option ℕ). unwrap_or x 0) is ∙ by (find 
 abbrev pub lines : Second → State → Recovered
 lines second left = record { host = P; second = second; groups = map group_line left.p.groups; sets = flat_map set_lines left.p.groups }
 
-pub recover_up : (s : State) → s.p.up ≡ true → refusal s (Recover P) ≡ Some (WrongState Up)
-recover_up s up = ap (λ b. cond (not (not b)) (Some (WrongState Up)) None) up
-
 pub recover_passes : (s : State) → s.p.up ≡ false → refusal s (Recover P) ≡ None
 recover_passes s down = ap (λ b. cond (not (not b)) (Some (WrongState Up)) None) down
 
@@ -106,7 +99,7 @@ up_again seen steady world s left second answer down stopped told up none holds 
     right = (recover_passes s down, (lines second left, refl, refl));
     next = record { left = left; done = stopped; up = refl; tells = ap (λ (x : Second). lines x left) told };
   }),
-  stands_up seen steady world (brought_up left P) up refl refl none (holds_same_state steady (view_of seen world) left (brought_up left P) refl refl refl holds) phase,
+  stands_up seen steady world (brought_up left P) up refl refl none (holds_same_state steady (view_of seen world) left (brought_up left P) refl refl refl refl holds) phase,
 )
 
 -- the host is down, its disks hold what the stages of a stopped event leave, and that is told of the event
@@ -149,12 +142,6 @@ second_clean (Some (Recover host)) held write command = refl
 has_none : (host : HostState) (name : List ℕ) → host.groups ≡ [] → has_set host name ≡ false
 has_none host name none = ap is_set (use_alone host name none)
 
-role_shadow : (set : ShadowSet) → set.shadow ≢ set.master → role_in set set.shadow ≡ Shadow
-role_shadow set differs = elim (cases_Bool (set.shadow == set.master)) [
-  | inl same ↦ absurd (differs (eqb-true set.shadow set.master same))
-  | inr other ↦ (λ i. if other i then Master else if (eq-eqb set.shadow set.shadow refl) i then Shadow else if set.shadow == set.bitmap then Bitmap else Plain)
-]
-
 module _ (s left : State) (dependent : Bool) (master shadow bitmap : List ℕ) (none : s.p.groups ≡ []) where
   -- a group is there only where all is done, and it has the name of the shadow
   enabled_name : (g : ShadowGroup) → StoppedIn s (Spend P bitmap ∷ Enable P dependent master shadow bitmap ∷ []) left → left.p.groups ≡ g ∷ [] → g.name ≡ shadow
@@ -174,7 +161,7 @@ module _ (s left : State) (dependent : Bool) (master shadow bitmap : List ℕ) (
   command_by steady names places NoGroup by phase stopped = sym (ap (λ (b : Bool). if b then Done else Kept) (has_none left.p shadow by.1))
   command_by steady names places (FreeDisk disk) by phase stopped = sym (ap (λ (b : Bool). if b then Done else Kept) (has_none left.p shadow by.1.0))
   command_by steady names places (InMemory set held) by phase stopped =
-      let is = group_open steady names places set held left.p.volumes left.p.groups by in
+      let is = open_groups steady names places set held left.p.volumes left.p.groups by.0 by.1 in
       let set_of = by.1.set_of in
       let name : shadow ≡ name_at names set.shadow = sym (enabled_name (group_with names set (meaning held) is.0) stopped is.1) ∙ set_of.named in
       let used = use_in_set names left.p set (meaning held) is.0 is.1 (name_at names set.shadow) set.shadow set_of set_of.shadow_there in
@@ -266,12 +253,12 @@ stays_down steady s is_down reads other = record {
 }
 
 -- the world then stands for the same
-pub lost_stands : {D : Type 0} (seen : D → Seen) (steady : Bool) (old new : World D) (s : State) → Stands seen steady old s → old.up ≡ false → new.up ≡ old.up → new.stopped ≡ old.stopped
-    → IsLost (view_of seen old) (view_of seen new) → (next : State) × (Step steady s (Recover P) (answers.Faulted P) next) × (Stands seen steady new next)
-lost_stands seen steady old new s stands is_down same_up same_stopped lost =
-    let explained : IsExplained (OnDisks lost.set lost.parts) s.p = subst (λ (g : GroupView). IsExplained g s.p) lost.was stands.explained in (
+pub unfound_stands : {D : Type 0} (seen : D → Seen) (steady : Bool) (old new : World D) (s : State) → Stands seen steady old s → old.up ≡ false → new.up ≡ old.up → new.stopped ≡ old.stopped
+    → FailsFinding (view_of seen old) (view_of seen new) → (next : State) × (Step steady s (Recover P) (answers.Faulted P) next) × (Stands seen steady new next)
+unfound_stands seen steady old new s stands is_down same_up same_stopped fails =
+    let explained : IsExplained (OnDisks fails.set fails.parts) s.p = subst (λ (g : GroupView). IsExplained g s.p) fails.was stands.explained in (
       s,
-      stays_down steady s (sym stands.up ∙ is_down) (reads_group steady (view_of seen old) s stands.left lost.set lost.parts lost.was stands.stopped stands.holds stands.explained) (lost.unsteady steady stands.left stands.holds),
+      stays_down steady s (sym stands.up ∙ is_down) (reads_group steady (view_of seen old) s stands.left fails.set fails.parts fails.was stands.stopped stands.holds stands.explained) (fails.unsteady steady stands.left stands.holds),
       record {
         up = same_up ∙ stands.up;
         none_stopped = stands.none_stopped;
@@ -279,16 +266,11 @@ lost_stands seen steady old new s stands is_down same_up same_stopped lost =
         left = stands.left;
         stopped = stands.stopped;
         there = subst (λ (o : Option Stopped). IsThere o stands.left) (sym same_stopped) stands.there;
-        holds = lost.holds steady stands.left stands.holds;
-        phase = subst (IsPhase new.up) (sym lost.is) (same_up ∙ is_down);
-        explained = subst (λ (g : GroupView). IsExplained g s.p) (sym lost.is) (λ off. explained (sym lost.enabled ∙ off));
+        holds = fails.holds steady stands.left stands.holds;
+        phase = subst (IsPhase new.up) (sym fails.is) (same_up ∙ is_down);
+        explained = subst (λ (g : GroupView). IsExplained g s.p) (sym fails.is) (λ off. explained (sym fails.enabled ∙ off));
       },
     )
-
--- counts of faults that rose after they had not fallen
-pub rose_later : (old mid new : StoreView) → ((name : DiskName) → was_there mid name ≡ true → was_there old name ≡ true) → ((name : DiskName) → faults_of old name ≤ faults_of mid name)
-    → DiskRose mid new → DiskRose old new
-rose_later old mid new there later rose = (rose.0, there rose.0 rose.1, omega (arith, later rose.0, rose.2))
 
 -- A write was stopped.
 
@@ -305,47 +287,18 @@ second_write s left write blocks kept is =
     ap (Torn write.volume write.at) (is ∙ ap (λ (img : Image). standing img write.at (replicate write.len (fill write.pattern))) (sym (image_by_up left.p write.volume (use_of left.p write.volume))))
     ∙ ap (λ (o : Option Event). second_of o (brought_up left P).p) (sym kept)
 
--- a group that was in memory is enabled on its disks
-apart_explained : (steady : Bool) (names : List (List ℕ)) (places : List (Place Seen)) (group : GroupView) (volumes : List VolumeState) (groups : List ShadowGroup) (held : HostState)
-    → HoldsBy steady names places group volumes groups → IsPhase true group → IsExplained (closed group) held
-apart_explained steady names places NoGroup volumes groups held by phase = tt
-apart_explained steady names places (FreeDisk disk) volumes groups held by phase = tt
-apart_explained steady names places (InMemory set disks) volumes groups held by phase = λ off. absurd (false≢true (sym off ∙ by.0.on_disk))
-apart_explained steady names places (OnDisks set parts) volumes groups held by phase = absurd (false≢true (sym phase))
-
 -- its blocks could not be read: all stays
-pub write_lost : {D : Type 0} (seen : D → Seen) (steady : Bool) (store mid : StoreView) (new : World D) (s : State) (write : StoppedWrite) (answer : Answer) (waiting : IsWaiting steady store write s) → Holds steady mid waiting.left
+pub write_unread : {D : Type 0} (seen : D → Seen) (steady : Bool) (store mid : StoreView) (new : World D) (s : State) (write : StoppedWrite) (answer : Answer) (waiting : IsWaiting steady store write s) → Holds steady mid waiting.left
     → IsPhase true mid.group → steady ≡ false → SameApart mid.group → view_of seen new ≡ record mid { group = closed mid.group } → new.up ≡ false → new.stopped ≡ Some (stopped.Write write) → answer ≡ answers.Faulted P
     → (next : State) × (Step steady s (Recover P) answer next) × (Stands seen steady new next)
-write_lost seen steady store mid new s write answer waiting holds phase other same view is_down kept is = (
+write_unread seen steady store mid new s write answer waiting holds phase other same view is_down kept is = (
   s,
   subst (λ (a : Answer). Step steady s (Recover P) a s) (sym is) (stays_down steady s waiting.down (reads_write s (ap is_write waiting.is)) other),
-  record {
-    up = is_down ∙ sym waiting.down;
-    none_stopped = λ up. absurd (false≢true (sym waiting.down ∙ up));
-    keeps = subst (λ (o : Option Stopped). Keeps o s.p) (sym kept) waiting.is;
-    left = waiting.left;
-    stopped = waiting.stopped;
-    there = subst (λ (o : Option Stopped). IsThere o waiting.left) (sym kept) waiting.there;
-    holds = subst (λ (v : StoreView). Holds steady v waiting.left) (sym view) (holds_apart steady mid waiting.left same holds);
-    phase = subst (λ (b : Bool). IsPhase b (view_of seen new).group) (sym is_down) (subst (λ (v : StoreView). IsPhase false v.group) (sym view) (phase_apart mid.group phase));
-    explained = subst (λ (v : StoreView). IsExplained v.group s.p) (sym view)
-        (apart_explained steady mid.names mid.places mid.group waiting.left.p.volumes waiting.left.p.groups s.p holds.by phase);
-  },
+  stands_down seen steady new s mid waiting.left is_down waiting.down view same (subst (λ (o : Option Stopped). Keeps o s.p) (sym kept) waiting.is) waiting.stopped
+      (subst (λ (o : Option Stopped). IsThere o waiting.left) (sym kept) waiting.there) holds (explained_apart mid.group s.p (enabled_up steady mid waiting.left holds phase)),
 )
 
--- the disks of a group that is taken apart are the same
-apart_disks : (group : GroupView) → SameApart group → group_disks (closed group) ≡ group_disks group
-apart_disks NoGroup same = refl
-apart_disks (FreeDisk disk) same = refl
-apart_disks (InMemory set held) same = same.disks
-apart_disks (OnDisks set parts) same = refl
-
-rose_by : (old mid : StoreView) (name : DiskName) → SameApart mid.group → Rose (faults_of old name) (faults_of mid name) → Rose (faults_of old name) (faults_of (record mid { group = closed mid.group }) name)
-rose_by old mid (AtPlace place) same rose = rose
-rose_by old mid (InGroup number) same rose =
-    subst (λ (l : List Seen). Rose (faults_of old (InGroup number)) (option_map_or (λ (d : Seen). d.faults) (slice_get l number) 0)) (sym (apart_disks mid.group same)) rose
-
+-- the disks of a group that is taken apart have failed as often
 pub rose_apart : (old mid new : StoreView) (answer : Answer) → SameApart mid.group → new ≡ record mid { group = closed mid.group } → answer ≡ answers.Faulted P → DiskRose old mid → FaultHasCause old new answer
 rose_apart old mid new answer same view is rose =
-    subst (λ (a : Answer). FaultHasCause old new a) (sym is) (subst (λ (v : StoreView). DiskRose old v) (sym view) (rose.0, rose.1, rose_by old mid rose.0 same rose.2))
+    subst (λ (a : Answer). FaultHasCause old new a) (sym is) (subst (λ (v : StoreView). DiskRose old v) (sym view) (rose_closed old mid mid.group same rose))

@@ -4,9 +4,9 @@ use Rattle.std.specs.Prelude.{slice_set}
 use Rattle.std.specs.List.{slice_get}
 use Rattle.std.specs.Option.{option_map}
 use Rattle.std.proofs.lemmas.Bool.{cases_lt}
-use Rattle.std.proofs.lemmas.Option.{slice_get-map, slice_get_read, slice_get_past, get_or_from_slice_get, same_Some}
+use Rattle.std.proofs.lemmas.Option.{slice_get-map, slice_get_read, slice_get_past, get_or_from_slice_get}
 use Rattle.std.proofs.lemmas.List.{map-set, length-map}
-use Rattle.avs_dev.specs.Seen.{Seen, IsRange, Arms}
+use Rattle.avs_dev.specs.Seen.{Seen, Arms}
 use Rattle.avs_world.proofs.Holding.{set_back}
 use Rattle.avs_world.specs.declared.place.Place.{Place}
 use Rattle.avs_world.specs.declared.place.Place.TheVariants.{Lent}
@@ -38,14 +38,6 @@ module _ {D : Type 0} (seen : D → Seen) (items : List (Place D)) (k : ℕ) whe
   disk_placed old new disk there is =
       placed new (with_disk (place_view seen old) disk) is
       ∙ ap (λ (p : Place Seen). slice_set (map (place_view seen) items) k (with_disk p disk)) (sym (get_or_from_slice_get (map (place_view seen) items) k (place_view seen old) Lent (seen_there old there)))
-
-  -- the range that is asked for is one of the disk there
-  pub range_there : (p : Place D) (disk : Seen) (at len : ℕ) → slice_get items k ≡ Some p → disk_here (Some (place_view seen p)) ≡ Some disk → HasRange (map (place_view seen) items) k at len → IsRange disk at len
-  range_there p disk at len there is has = subst (λ (d : Seen). IsRange d at len) (same_Some has.disk disk (sym has.here ∙ disk_there p (Some disk) there is)) has.range
-
-  -- no range is asked of a disk that is not here
-  pub none_lent : (at len : ℕ) → slice_get items k ≡ Some Lent → HasRange (map (place_view seen) items) k at len → ⊥
-  none_lent at len there has = let e : None ≡ Some has.disk = sym (disk_there Lent None there refl) ∙ has.here in absurd (cc)
 
   -- a tear is armed there
   pub arms_there : (old new : Place D) (disk disk_new : Seen) (result : Bool) → slice_get items k ≡ Some old → disk_here (Some (place_view seen old)) ≡ Some disk

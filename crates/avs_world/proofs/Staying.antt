@@ -1,8 +1,8 @@
 -- What stays of a group of one set, whose shape a call on its contents keeps.
-use Rattle.std.proofs.Common.{◌≡◌, ℕ, zero, suc, Bool, true, false, ◌&&◌, List, [], ◌∷◌, length, map, Option, None, Some, slice_index, refl, sym, ◌∙◌, ap, subst, arith}
-use Rattle.std.specs.Prelude.{IsTrue, nat_lt, slice_set}
+use Rattle.std.proofs.Common.{◌≡◌, ℕ, zero, suc, Bool, true, false, ◌&&◌, List, [], ◌∷◌, length, map, None, Some, slice_index, refl, sym, ◌∙◌, ap, subst, arith}
+use Rattle.std.specs.Prelude.{if◌then◌else◌, nat_lt, slice_set}
 use Rattle.std.specs.List.{list_all, slice_get}
-use Rattle.std.specs.Option.{option_map, option_map_or}
+use Rattle.std.specs.Option.{option_map_or}
 use Rattle.avs_dev.specs.Seen.{Seen, IsTold}
 use Rattle.avs_code.specs.declared.group_blocks.GroupBlock.{GroupBlock}
 use Rattle.avs_model.specs.Shadows.{GroupState, blocks_at}
@@ -10,17 +10,17 @@ use Rattle.avs_model.specs.State.{VolumeState, HostState, ShadowGroup}
 use Rattle.avs_model.specs.declared.shadow.Kind.TheVariants.{Dep}
 use Rattle.avs_ii.specs.Held.{IiDisks, disks_of, is_live}
 use Rattle.avs_ii.specs.Meaning.{kept_on, meaning}
-use Rattle.avs_ii.specs.Shape.{DiskShape, SetShape, GroupShape, disk_shape, set_shape, shape_of}
-use Rattle.avs_ii.specs.Parts.{PartDisks, parts_of, set_parts}
+use Rattle.avs_ii.specs.Shape.{DiskShape, disk_shape, shape_of}
+use Rattle.avs_ii.specs.Parts.{PartDisks, parts_of}
 use Rattle.avs_ii.specs.Making.{AreTold}
-use Rattle.avs_ii.specs.Calls.{armed_of, are_steady}
+use Rattle.avs_ii.specs.Calls.{armed_of}
 use Rattle.avs_world.specs.declared.place.Place.{Place}
 use Rattle.avs_world.specs.declared.group.ShadowSet.{ShadowSet}
 use Rattle.avs_world.specs.Views.{FourDisks, one_set}
-use Rattle.avs_world.specs.Holds.{Shown, gone, kept, shown, expected, shown_with, group_with, is_enabled, AreGroups, IsStateDisk, HoldsSet, IsOpen}
-use Rattle.avs_world.proofs.Holding.{three_volumes}
-use Rattle.avs_world.proofs.OneSet.{IsOneSet, one_element, one_held, blocks_meant}
-use Rattle.avs_world.proofs.Tears.{Marks, four, four_list}
+use Rattle.avs_world.specs.Holds.{Shown, kept, shown, expected, shown_with, group_with, is_enabled, AreGroups, IsStateDisk, HoldsSet, IsOpen, plain, plain_or_gone}
+use Rattle.avs_world.proofs.Holding.{three_volumes, set_holds, open_shows}
+use Rattle.avs_world.proofs.OneSet.{IsOneSet, one_held, blocks_meant}
+use Rattle.avs_world.proofs.Tears.{Marks, hidden, four, four_list, parts_one, StaysOne, stays_one}
 
 -- all four disks tell their blocks
 pub record AreFourTold (disks : FourDisks) : Type 0 where
@@ -34,57 +34,6 @@ four_told parts slot disks is told =
     let t = subst (λ (p : PartDisks). AreTold p) is told in
     let set = t.sets 0 (record { slot = slot; kind = Dep; master = 0; shadow = Some disks.shadow; bitmap = disks.bitmap; over = None }) (omega arith) in
     record { state = t.state; master = t.volumes 0 disks.master (omega arith); shadow = set.shadow; bitmap = set.bitmap }
-
--- the parts of a group with one set
-pub parts_one : (set : ShadowSet) (disks : FourDisks) (held : IiDisks) → IsOneSet set disks held → parts_of held ≡ one_set set.slot disks
-parts_one set disks held is =
-    (λ i. record { state = is.state i; volumes = is.volumes i; sets = map set_parts (is.sets i); overs = [] })
-    ∙ (λ i. record {
-      state = disks.state;
-      volumes = disks.master ∷ [];
-      sets = record { slot = is.slot i; kind = is.kind i; master = is.master i; shadow = is.shadow i; bitmap = is.bitmap i; over = None } ∷ [];
-      overs = [];
-    })
-
--- the disks of a group of one set whose shape is that of another one
-pub record StaysOne (old : FourDisks) (set : ShadowSet) (blocks : ℕ) (new : IiDisks) : Type 0 where
-  pub disks : FourDisks
-  pub one : IsOneSet set disks new
-  pub same_blocks : one.one.chunks.blocks ≡ blocks
-  pub state : disk_shape disks.state ≡ disk_shape old.state
-  pub master : disk_shape disks.master ≡ disk_shape old.master
-  pub shadow : disk_shape disks.shadow ≡ disk_shape old.shadow
-  pub bitmap : disk_shape disks.bitmap ≡ disk_shape old.bitmap
-
--- a disk that has a shape
-shaped : (o : Option Seen) (shape : DiskShape) → option_map disk_shape o ≡ Some shape → (d : Seen) × (o ≡ Some d) × (disk_shape d ≡ shape)
-shaped None shape e = absurd (cc)
-shaped (Some d) shape e = (d, refl, cc)
-
-pub stays_one : (set : ShadowSet) (old : IiDisks) (disks : FourDisks) (new : IiDisks) (is : IsOneSet set disks old) → shape_of new ≡ shape_of old → StaysOne disks set is.one.chunks.blocks new
-stays_one set old disks new is same =
-    let volumes = one_element disk_shape new.volumes (disk_shape disks.master) (ap (λ (s : GroupShape). s.volumes) same ∙ ap (map disk_shape) is.volumes) in
-    let sets = one_element set_shape new.sets (set_shape is.one) (ap (λ (s : GroupShape). s.sets) same ∙ ap (map set_shape) is.sets) in
-    let shadow = shaped sets.0.chunks.shadow (disk_shape disks.shadow) (ap (λ (s : SetShape). s.shadow) sets.1.1 ∙ ap (option_map disk_shape) is.shadow) in
-    record {
-      disks = record { state = new.state; master = volumes.0; shadow = shadow.0; bitmap = sets.0.chunks.areas.disk };
-      one = record {
-        one = sets.0;
-        state = refl;
-        volumes = volumes.1.0;
-        sets = sets.1.0;
-        slot = ap (λ (s : SetShape). s.slot) sets.1.1 ∙ is.slot;
-        kind = ap (λ (s : SetShape). s.kind) sets.1.1 ∙ is.kind;
-        master = ap (λ (s : SetShape). s.master) sets.1.1 ∙ is.master;
-        shadow = shadow.1;
-        bitmap = refl;
-      };
-      same_blocks = ap (λ (s : SetShape). s.blocks) sets.1.1;
-      state = ap (λ (s : GroupShape). s.state) same ∙ ap disk_shape is.state;
-      master = volumes.1.1;
-      shadow = shadow.2;
-      bitmap = ap (λ (s : SetShape). s.bitmap) sets.1.1 ∙ ap disk_shape is.bitmap;
-    }
 
 -- a disk of the same shape whose blocks are told shows the same, but for its tear
 module _ (old new : Seen) (shape : disk_shape new ≡ disk_shape old) (old_told : IsTold old) (new_told : IsTold new) where
@@ -101,11 +50,8 @@ module _ (old new : Seen) (shape : disk_shape new ≡ disk_shape old) (old_told 
   same_armed : new.armed ≡ old.armed → (new.steady && new.armed) ≡ (old.steady && old.armed)
   same_armed is = λ i. (ap (λ (s : DiskShape). s.steady) shape) i && is i
 
-  pub kept_same : new.armed ≡ old.armed → kept new ≡ kept old
-  kept_same is = λ i. record { image = []; spent = false; told = same_told i; size = same_size i; some = nat_lt 0 (same_size i); steady = (ap (λ (s : DiskShape). s.steady) shape) i; armed = same_armed is i }
-
-  pub gone_same : new.armed ≡ old.armed → gone new ≡ gone old
-  gone_same is = λ i. record { image = []; spent = true; told = same_told i; size = same_size i; some = nat_lt 0 (same_size i); steady = (ap (λ (s : DiskShape). s.steady) shape) i; armed = same_armed is i }
+  pub hidden_same : (spent : Bool) → new.armed ≡ old.armed → hidden spent new ≡ hidden spent old
+  hidden_same spent is = λ i. record { image = []; spent = spent; told = same_told i; size = same_size i; some = nat_lt 0 (same_size i); steady = (ap (λ (s : DiskShape). s.steady) shape) i; armed = same_armed is i }
 
 -- counts by number
 pub count_at : (f : Seen → ℕ) (disks : List Seen) (k : ℕ) → slice_index (map f disks) k ≡ option_map_or f (slice_get disks k) 0
@@ -156,21 +102,12 @@ module _ (steady : Bool) (names : List (List ℕ)) (places : List (Place Seen)) 
   pub new_disks : disks_of new ≡ four stays.disks
   new_disks = four_list new set.slot stays.disks new_parts
 
-  pub shown_live : shown_with places set holds.disks true ≡ map (expected steady) volumes
-  shown_live = ap (λ (b : Bool). shown_with places set holds.disks b) (sym opened.on_disk) ∙ holds.shows
-
   -- the set holds these volumes, and a group of that state
   pub set_with : (group : AreGroups steady names set state holds.disks.state true groups) (vs : List VolumeState) (left : GroupState) (gs : List ShadowGroup) → shown_with places set stays.disks true ≡ map (expected steady) vs → gs ≡ group_with names set left group.0 ∷ []
       → HoldsSet steady names places set (parts_of new) left vs gs
-  set_with group vs left gs shows are = record {
-    disks = stays.disks;
-    is = new_parts;
-    set_of = holds.set_of;
-    state_disk = subst (λ (d : Seen). IsStateDisk steady d) (sym same_state) holds.state_disk;
-    shows = ap (λ (b : Bool). shown_with places set stays.disks b) still_enabled ∙ shows;
-    are = subst (λ (b : Bool). AreGroups steady names set left stays.disks.state b gs) (sym still_enabled)
-        (group.0, are, λ is. ap (λ (d : Seen). d.armed) same_state ∙ group.2 is);
-  }
+  set_with group vs left gs shows are =
+      set_holds steady names places set (parts_of new) stays.disks true left vs gs new_parts holds.set_of (subst (λ (d : Seen). IsStateDisk steady d) (sym same_state) holds.state_disk) still_enabled shows
+      (group.0, are, λ is. ap (λ (d : Seen). d.armed) same_state ∙ group.2 is)
 
   -- the same disks armed
   same_list : armed_of new ≡ armed_of old
@@ -184,20 +121,26 @@ module _ (steady : Bool) (names : List (List ℕ)) (places : List (Place Seen)) 
       let master : stays.disks.master.armed ≡ holds.disks.master.armed = cc in
       let shadow : stays.disks.shadow.armed ≡ holds.disks.shadow.armed = cc in
       let bitmap : stays.disks.bitmap.armed ≡ holds.disks.bitmap.armed = cc in
-      let m = kept_same holds.disks.master stays.disks.master stays.master old_told.master new_told.master master in
-      let s = kept_same holds.disks.shadow stays.disks.shadow stays.shadow old_told.shadow new_told.shadow shadow in
-      let b = gone_same holds.disks.bitmap stays.disks.bitmap stays.bitmap old_told.bitmap new_told.bitmap bitmap in
-      (λ i. slice_set (slice_set (slice_set (map shown places) set.bitmap (b i)) set.master (m i)) set.shadow (s i)) ∙ shown_live
+      let m = hidden_same holds.disks.master stays.disks.master stays.master old_told.master new_told.master false master in
+      let s = hidden_same holds.disks.shadow stays.disks.shadow stays.shadow old_told.shadow new_told.shadow false shadow in
+      let b = hidden_same holds.disks.bitmap stays.disks.bitmap stays.bitmap old_told.bitmap new_told.bitmap true bitmap in
+      (λ i. slice_set (slice_set (slice_set (map shown places) set.bitmap (b i)) set.master (m i)) set.shadow (s i)) ∙ open_shows steady names places set old volumes groups opened holds
 
--- all disks of a group of one set are steady, where its volumes are shown so
-module _ (names : List (List ℕ)) (host : HostState) (places : List (Place Seen)) (set : ShadowSet) (old : IiDisks) (state : GroupState) (groups : List ShadowGroup)
-    (same : names ≡ map (λ (v : VolumeState). v.name) host.volumes) (opened : IsOpen set old) where
-  pub are_steady_in : (steady : Bool) → HoldsSet steady names places set (parts_of old) state host.volumes groups → steady ≡ true → IsTrue (are_steady old)
-  are_steady_in steady holds is =
-      let shows : shown_with places set holds.disks true ≡ map (expected steady) host.volumes = ap (λ (b : Bool). shown_with places set holds.disks b) (sym opened.on_disk) ∙ holds.shows in
-      let three = three_volumes steady names host places set holds.disks true same shows holds.set_of in
-      let st : holds.disks.state.steady ≡ true = holds.state_disk.same ∙ is in
-      let m : holds.disks.master.steady ≡ true = ap (λ (s : Shown). s.steady) three.master.is ∙ is in
-      let sh : holds.disks.shadow.steady ≡ true = ap (λ (s : Shown). s.steady) three.shadow.is ∙ is in
-      let b : holds.disks.bitmap.steady ≡ true = ap (λ (s : Shown). s.steady) three.bitmap.is ∙ is in
-      ap (list_all (λ (d : Seen). d.steady)) (four_list old set.slot holds.disks holds.is) ∙ (λ i. st i && (m i && (sh i && (b i && true))))
+-- all disks of the group are as steady as the state says
+pub four_steady : (steady : Bool) (names : List (List ℕ)) (host : HostState) (places : List (Place Seen)) (set : ShadowSet) (parts : PartDisks) (group : GroupState) → names ≡ map (λ (v : VolumeState). v.name) host.volumes
+    → (holds : HoldsSet steady names places set parts group host.volumes host.groups) → steady ≡ true → list_all (λ (d : Seen). d.steady) (four holds.disks) ≡ true
+four_steady steady names host places set parts group same holds is =
+    let three = three_volumes steady names host places set holds.disks (is_enabled set parts) same holds.shows holds.set_of in
+    let st : holds.disks.state.steady ≡ true = holds.state_disk.same ∙ is in
+    let m : holds.disks.master.steady ≡ true = steady_of (is_enabled set parts) holds.disks.master (kept holds.disks.master) (plain holds.disks.master) refl refl ∙ ap (λ (s : Shown). s.steady) three.master.is ∙ is in
+    let sh : holds.disks.shadow.steady ≡ true = steady_of (is_enabled set parts) holds.disks.shadow (kept holds.disks.shadow) (plain_or_gone set.spent holds.disks.shadow) refl (plain_steady set.spent holds.disks.shadow) ∙ ap (λ (s : Shown). s.steady) three.shadow.is ∙ is in
+    let b : holds.disks.bitmap.steady ≡ true = ap (λ (s : Shown). s.steady) three.bitmap.is ∙ is in
+    (λ i. st i && (m i && (sh i && (b i && true))))
+  where
+    steady_of : (live : Bool) (d : Seen) (x y : Shown) → d.steady ≡ x.steady → d.steady ≡ y.steady → d.steady ≡ (if live then x else y).steady
+    steady_of true d x y ex ey = ex
+    steady_of false d x y ex ey = ey
+
+    plain_steady : (spent : Bool) (d : Seen) → d.steady ≡ (plain_or_gone spent d).steady
+    plain_steady true d = refl
+    plain_steady false d = refl

@@ -1,5 +1,5 @@
 -- Tears on the disks of a group: one is armed, or was met.
-use Rattle.std.proofs.Common.{◌≡◌, ◌≢◌, ℕ, Bool, true, false, Some, None, Option, List, [], ◌∷◌, ◌++◌, length, map, refl, sym, ◌∙◌, ap, subst}
+use Rattle.std.proofs.Common.{◌≡◌, ◌≢◌, ℕ, Bool, true, false, Some, None, List, [], ◌∷◌, ◌++◌, length, map, refl, sym, ◌∙◌, ap}
 use Rattle.std.specs.Prelude.{◌&&◌, nat_lt, slice_set, slice_get}
 use Rattle.std.specs.List.{flat_map, position}
 use Rattle.std.specs.Option.{option_map}
@@ -9,20 +9,18 @@ use Rattle.avs_seg.specs.Image.{Image, block_at}
 use Rattle.avs_dev.specs.Seen.{Seen}
 use Rattle.avs_code.specs.GroupBlock.{group_block_at}
 use Rattle.avs_chunk.specs.ChunkSet.{both_disks}
-use Rattle.avs_model.specs.State.{HostState, ShadowGroup, VolumeState, with_volume_of}
+use Rattle.avs_model.specs.State.{HostState, VolumeState, with_volume_of}
 use Rattle.avs_model.specs.declared.shadow.Kind.TheVariants.{Dep}
 use Rattle.avs_model.proofs.Volumes.{with_volume_of-place}
 use Rattle.avs_ii.specs.Held.{HeldSet, IiDisks, disks_of, is_live}
-use Rattle.avs_ii.specs.Meaning.{meaning}
-use Rattle.avs_ii.specs.SetDisks.{SetDisks}
-use Rattle.avs_ii.specs.Shape.{DiskShape, SetShape, disk_shape, set_shape, shape_of}
+use Rattle.avs_ii.specs.Shape.{GroupShape, SetShape, disk_shape, set_shape, shape_of}
 use Rattle.avs_ii.specs.Parts.{PartDisks, parts_of, set_parts}
 use Rattle.avs_world.specs.declared.place.Place.{Place}
 use Rattle.avs_world.specs.declared.group.ShadowSet.{ShadowSet}
 use Rattle.avs_world.specs.Views.{FourDisks, one_set}
-use Rattle.avs_world.specs.Holds.{AreGroups, HoldsSet, IsOpen, IsSetOf, IsStateDisk, Shown, expected, gone, is_enabled, kept, shown, shown_with}
+use Rattle.avs_world.specs.Holds.{IsSetOf, Shown, expected, gone, is_enabled, kept, shown, shown_with}
 use Rattle.avs_world.proofs.Holding.{shows-set, three_volumes, volume_named}
-use Rattle.avs_world.proofs.OneSet.{one_element}
+use Rattle.avs_world.proofs.OneSet.{IsOneSet, one_element, one_there}
 
 -- a disk that shows what it showed, but for whether a tear is armed on it
 pub record Marks (sure : Bool) (old new : Seen) (flag : Bool) : Type 0 where
@@ -31,6 +29,10 @@ pub record Marks (sure : Bool) (old new : Seen) (flag : Bool) : Type 0 where
   pub steady : new.steady ≡ old.steady
   pub armed : sure ≡ true → new.armed ≡ flag
 
+-- what is shown of a disk whose image is not: it is kept in a group's state, or gone
+abbrev pub hidden : Bool → Seen → Shown
+hidden spent d = record { image = []; spent = spent; told = length d.image; size = d.size; some = nat_lt 0 d.size; steady = d.steady; armed = d.steady && d.armed }
+
 armed_so : (steady sure was flag : Bool) → steady ≡ sure → (sure ≡ true → was ≡ flag) → (steady && was) ≡ (sure && flag)
 armed_so true true was flag same so = so refl
 armed_so false false was flag same so = refl
@@ -38,19 +40,8 @@ armed_so true false was flag same so = cc
 armed_so false true was flag same so = cc
 
 module _ (sure : Bool) (old new : Seen) (flag : Bool) (v : VolumeState) (marks : Marks sure old new flag) where
-  pub kept_marked : kept old ≡ expected sure v → kept new ≡ expected sure (record v { armed = flag })
-  kept_marked is =
-      let steady : new.steady ≡ sure = marks.steady ∙ ap (λ (s : Shown). s.steady) is in
-      (λ i. record (is i) {
-        told = (marks.told ∙ ap (λ (s : Shown). s.told) is) i;
-        size = (marks.size ∙ ap (λ (s : Shown). s.size) is) i;
-        some = (ap (λ (n : ℕ). nat_lt 0 n) marks.size ∙ ap (λ (s : Shown). s.some) is) i;
-        steady = steady i;
-        armed = armed_so new.steady sure new.armed flag steady marks.armed i;
-      })
-
-  pub gone_marked : gone old ≡ expected sure v → gone new ≡ expected sure (record v { armed = flag })
-  gone_marked is =
+  pub hidden_marked : (spent : Bool) → hidden spent old ≡ expected sure v → hidden spent new ≡ expected sure (record v { armed = flag })
+  hidden_marked spent is =
       let steady : new.steady ≡ sure = marks.steady ∙ ap (λ (s : Shown). s.steady) is in
       (λ i. record (is i) {
         told = (marks.told ∙ ap (λ (s : Shown). s.told) is) i;
@@ -98,31 +89,26 @@ module _ (steady : Bool) (names : List (List ℕ)) (host : HostState) (places : 
     master_marked sought d marks =
         let at = (three_volumes steady names host places set disks true same shows set_of).master in
         other_master places set disks d set_of.shadow_differs
-        ∙ shows_marked set.master at.volume (kept d) sought at.there (kept_marked steady disks.master d flag at.volume marks at.is)
+        ∙ shows_marked set.master at.volume (kept d) sought at.there (hidden_marked steady disks.master d flag at.volume marks false at.is)
 
     pub shadow_marked : position (bytes_eq name) names ≡ Some set.shadow → (d : Seen) → Marks steady disks.shadow d flag
         → shown_with places set (record disks { shadow = d }) true ≡ map (expected steady) (with_volume_of host.volumes name mark)
     shadow_marked sought d marks =
         let at = (three_volumes steady names host places set disks true same shows set_of).shadow in
         other_shadow places set disks d
-        ∙ shows_marked set.shadow at.volume (kept d) sought at.there (kept_marked steady disks.shadow d flag at.volume marks at.is)
+        ∙ shows_marked set.shadow at.volume (kept d) sought at.there (hidden_marked steady disks.shadow d flag at.volume marks false at.is)
 
     pub bitmap_marked : position (bytes_eq name) names ≡ Some set.bitmap → (d : Seen) → Marks steady disks.bitmap d flag
         → shown_with places set (record disks { bitmap = d }) true ≡ map (expected steady) (with_volume_of host.volumes name mark)
     bitmap_marked sought d marks =
         let at = (three_volumes steady names host places set disks true same shows set_of).bitmap in
         other_bitmap places set disks d set_of.bitmap_differs set_of.bitmap_differs_too
-        ∙ shows_marked set.bitmap at.volume (gone d) sought at.there (gone_marked steady disks.bitmap d flag at.volume marks at.is)
+        ∙ shows_marked set.bitmap at.volume (gone d) sought at.there (hidden_marked steady disks.bitmap d flag at.volume marks true at.is)
 
 -- ---- the four disks of a group with one set
 
 abbrev pub four : FourDisks → List Seen
 four disks = disks.state ∷ disks.master ∷ disks.shadow ∷ disks.bitmap ∷ []
-
--- a disk that has a shape is there
-there_by : (o : Option Seen) (shape : DiskShape) → option_map disk_shape o ≡ Some shape → (d : Seen) × (o ≡ Some d)
-there_by None shape is = cc
-there_by (Some d) shape is = (d, refl)
 
 -- the disks of such a group, in order
 pub four_list : (g : IiDisks) (slot : ℕ) (disks : FourDisks) → parts_of g ≡ one_set slot disks → disks_of g ≡ four disks
@@ -132,56 +118,51 @@ four_list g slot disks is =
     (λ i. (ap (λ (p : PartDisks). p.state) is) i ∷ (ap (λ (p : PartDisks). p.volumes) is) i ++ flat_map (λ (s : HeldSet). both_disks s.chunks.shadow s.chunks.areas.disk) (set.1.0 i))
     ∙ ap (λ (l : List Seen). disks.state ∷ disks.master ∷ l ++ []) of
 
--- a group of the same shape has four disks too
-pub record IsFour (g : IiDisks) (slot : ℕ) : Type 0 where
+-- the parts of a group with one set
+pub parts_one : (set : ShadowSet) (disks : FourDisks) (held : IiDisks) → IsOneSet set disks held → parts_of held ≡ one_set set.slot disks
+parts_one set disks held is =
+    (λ i. record { state = is.state i; volumes = is.volumes i; sets = map set_parts (is.sets i); overs = [] })
+    ∙ (λ i. record {
+      state = disks.state;
+      volumes = disks.master ∷ [];
+      sets = record { slot = is.slot i; kind = is.kind i; master = is.master i; shadow = is.shadow i; bitmap = is.bitmap i; over = None } ∷ [];
+      overs = [];
+    })
+
+-- the disks of a group of one set whose shape is that of another one
+pub record StaysOne (old : FourDisks) (set : ShadowSet) (blocks : ℕ) (new : IiDisks) : Type 0 where
   pub disks : FourDisks
-  pub is : parts_of g ≡ one_set slot disks
+  pub one : IsOneSet set disks new
+  pub same_blocks : one.one.chunks.blocks ≡ blocks
+  pub state : disk_shape disks.state ≡ disk_shape old.state
+  pub master : disk_shape disks.master ≡ disk_shape old.master
+  pub shadow : disk_shape disks.shadow ≡ disk_shape old.shadow
+  pub bitmap : disk_shape disks.bitmap ≡ disk_shape old.bitmap
 
-pub four_after : (old new : IiDisks) (slot : ℕ) (disks : FourDisks) → shape_of new ≡ shape_of old → parts_of old ≡ one_set slot disks → IsFour new slot
-four_after old new slot disks same is =
-    let had = one_element set_parts old.sets (record { slot = slot; kind = Dep; master = 0; shadow = Some disks.shadow; bitmap = disks.bitmap; over = None }) (ap (λ (p : PartDisks). p.sets) is) in
-    let volume = one_element disk_shape new.volumes (disk_shape disks.master) (ap (λ s. s.volumes) same ∙ ap (λ (p : PartDisks). map disk_shape p.volumes) is) in
-    let set = one_element set_shape new.sets (set_shape had.0) (ap (λ s. s.sets) same ∙ ap (map set_shape) had.1.0) in
-    let shadow = there_by set.0.chunks.shadow (disk_shape disks.shadow) (ap (λ (s : SetShape). s.shadow) set.1.1 ∙ ap (λ (p : SetDisks). option_map disk_shape p.shadow) had.1.1) in
-    let slot_is : set.0.slot ≡ slot = ap (λ (s : SetShape). s.slot) set.1.1 ∙ ap (λ (p : SetDisks). p.slot) had.1.1 in
-    let kind_is : set.0.chunks.kind ≡ Dep = ap (λ (s : SetShape). s.kind) set.1.1 ∙ ap (λ (p : SetDisks). p.kind) had.1.1 in
-    let master_is : set.0.master ≡ 0 = ap (λ (s : SetShape). s.master) set.1.1 ∙ ap (λ (p : SetDisks). p.master) had.1.1 in
-    let bitmap = set.0.chunks.areas.disk in
+pub stays_one : (set : ShadowSet) (old : IiDisks) (disks : FourDisks) (new : IiDisks) (is : IsOneSet set disks old) → shape_of new ≡ shape_of old → StaysOne disks set is.one.chunks.blocks new
+stays_one set old disks new is same =
+    let volumes = one_element disk_shape new.volumes (disk_shape disks.master) (ap (λ (s : GroupShape). s.volumes) same ∙ ap (map disk_shape) is.volumes) in
+    let sets = one_element set_shape new.sets (set_shape is.one) (ap (λ (s : GroupShape). s.sets) same ∙ ap (map set_shape) is.sets) in
+    let shadow = one_there disk_shape sets.0.chunks.shadow (disk_shape disks.shadow) (ap (λ (s : SetShape). s.shadow) sets.1.1 ∙ ap (option_map disk_shape) is.shadow) in
     record {
-      disks = record { state = new.state; master = volume.0; shadow = shadow.0; bitmap = bitmap };
-      is = (λ i. record { state = new.state; volumes = volume.1.0 i; sets = map set_parts (set.1.0 i); overs = [] })
-          ∙ (λ i. record {
-            state = new.state;
-            volumes = volume.0 ∷ [];
-            sets = record { slot = slot_is i; kind = kind_is i; master = master_is i; shadow = shadow.1 i; bitmap = bitmap; over = None } ∷ [];
-            overs = [];
-          });
+      disks = record { state = new.state; master = volumes.0; shadow = shadow.0; bitmap = sets.0.chunks.areas.disk };
+      one = record {
+        one = sets.0;
+        state = refl;
+        volumes = volumes.1.0;
+        sets = sets.1.0;
+        slot = ap (λ (s : SetShape). s.slot) sets.1.1 ∙ is.slot;
+        kind = ap (λ (s : SetShape). s.kind) sets.1.1 ∙ is.kind;
+        master = ap (λ (s : SetShape). s.master) sets.1.1 ∙ is.master;
+        shadow = shadow.1;
+        bitmap = refl;
+      };
+      same_blocks = ap (λ (s : SetShape). s.blocks) sets.1.1;
+      state = ap (λ (s : GroupShape). s.state) same ∙ ap disk_shape is.state;
+      master = volumes.1.1;
+      shadow = shadow.2;
+      bitmap = ap (λ (s : SetShape). s.bitmap) sets.1.1 ∙ ap disk_shape is.bitmap;
     }
-
--- ---- a group in memory whose contents or tears changed
-
-module _ (steady : Bool) (names : List (List ℕ)) (places : List (Place Seen)) (set : ShadowSet) where
-  -- what is known where the set is enabled
-  pub open_shows : (held : IiDisks) (volumes : List VolumeState) (groups : List ShadowGroup) → IsOpen set held → (holds : HoldsSet steady names places set (parts_of held) (meaning held) volumes groups)
-      → shown_with places set holds.disks true ≡ map (expected steady) volumes
-  open_shows held volumes groups opened holds = subst (λ (b : Bool). shown_with places set holds.disks b ≡ map (expected steady) volumes) opened.on_disk holds.shows
-
-  pub open_groups : (held : IiDisks) (volumes : List VolumeState) (groups : List ShadowGroup) → IsOpen set held → (holds : HoldsSet steady names places set (parts_of held) (meaning held) volumes groups)
-      → AreGroups steady names set (meaning held) holds.disks.state true groups
-  open_groups held volumes groups opened holds = subst (λ (b : Bool). AreGroups steady names set (meaning held) holds.disks.state b groups) opened.on_disk holds.are
-
-  -- and that it then holds these volumes and groups
-  pub open_holds : (held : IiDisks) (volumes : List VolumeState) (groups : List ShadowGroup) (disks : FourDisks) → IsOpen set held → parts_of held ≡ one_set set.slot disks → IsSetOf names set → IsStateDisk steady disks.state
-      → shown_with places set disks true ≡ map (expected steady) volumes → AreGroups steady names set (meaning held) disks.state true groups
-      → HoldsSet steady names places set (parts_of held) (meaning held) volumes groups
-  open_holds held volumes groups disks opened is set_of state_disk shows are = record {
-    disks = disks;
-    is = is;
-    set_of = set_of;
-    state_disk = state_disk;
-    shows = subst (λ (b : Bool). shown_with places set disks b ≡ map (expected steady) volumes) (sym opened.on_disk) shows;
-    are = subst (λ (b : Bool). AreGroups steady names set (meaning held) disks.state b groups) (sym opened.on_disk) are;
-  }
 
 -- whether it is enabled, the image of its state disk tells
 pub enabled_same : (set : ShadowSet) (old new : IiDisks) → new.state.image ≡ old.state.image → is_enabled set (parts_of new) ≡ is_enabled set (parts_of old)

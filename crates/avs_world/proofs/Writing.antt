@@ -1,9 +1,9 @@
 -- What writing blocks of a volume makes of a store.
-use Rattle.std.proofs.Common.{◌≡◌, ℕ, Bool, true, false, not, ◌&&◌, Option, Some, Ok, Err, List, [], map, refl, sym, ◌∙◌, ap, subst, inl, inr}
-use Rattle.std.specs.Prelude.{IsTrue, Result, slice_set, nat_lt}
+use Rattle.std.proofs.Common.{◌≡◌, ℕ, Bool, true, false, ◌&&◌, Option, Some, Ok, Err, List, [], map, refl, sym, ◌∙◌, ap, subst, inl, inr}
+use Rattle.std.specs.Prelude.{Result, slice_set, nat_lt}
 use Rattle.std.specs.List.{slice_get}
 use Rattle.std.specs.Option.{option_map, option_map_or}
-use Rattle.std.proofs.lemmas.Bool.{cases_Bool, false≢true}
+use Rattle.std.proofs.lemmas.Bool.{cases_Bool, false≢true, not-true}
 use Rattle.avs_seg.specs.Image.{Image, blocks_of, put, IsMix}
 use Rattle.avs_dev.specs.Seen.{Seen, IsTold, Writes}
 use Rattle.avs_model.specs.State.{State, VolumeState, ShadowGroup, Use, Alone, OfVolume, use_from, use_of, volume_of, image_by, image_of, reach_by, with_armed, with_image}
@@ -23,10 +23,6 @@ use Rattle.avs_world.specs.Calls.{IsOf, StopsWrite, SamePlace, IsEnabled, Writes
 use Rattle.avs_world.proofs.Holding.{holds_plain, holds_apart}
 use Rattle.avs_world.proofs.SamePlaces.{look, looks_same, size_same, same_place}
 use Rattle.avs_world.proofs.Reading.{FoundPlain, plain_volume, place_filled, changed_place, here_still, rose_at}
-
-not_true : (b : Bool) → IsTrue (not b) → b ≡ false
-not_true false is = refl
-not_true true is = absurd (false≢true is)
 
 -- a disk that a write left, with this image, as this volume is then marked
 plain_written : {T E : Type 0} (steady : Bool) (at : ℕ) (bytes : List ℕ) (result : Result T E) (d d' : Seen) (v : VolumeState) (image : Image) (armed : Bool) → plain d ≡ expected steady v → IsTold d → Writes d at bytes result d' → d'.image ≡ image
@@ -69,10 +65,10 @@ module _ (old : StoreView) (places : List (Place Seen)) (target : Target) (at le
     places_are = is ∙ changed_place old.places k disk disk_new (place_filled (slice_get old.places k) disk disk_is (reached.filled role))
 
     -- the store holds a state in which that volume is so
-    holds_volume : (t : State) (w : VolumeState) → t.p.volumes ≡ slice_set state.p.volumes k w → t.p.groups ≡ state.p.groups → t.s ≡ state.s → w.name ≡ v.name → w.blocks ≡ v.blocks → plain disk_new ≡ expected steady w → Holds steady new t
-    holds_volume t w volumes groups other name_is blocks shows =
+    holds_volume : (t : State) (w : VolumeState) → t.p.volumes ≡ slice_set state.p.volumes k w → t.p.groups ≡ state.p.groups → t.p.state_disks ≡ state.p.state_disks → t.s ≡ state.s → w.name ≡ v.name → w.blocks ≡ v.blocks → plain disk_new ≡ expected steady w → Holds steady new t
+    holds_volume t w volumes groups disks other name_is blocks shows =
         subst (λ (ps : List (Place Seen)). Holds steady (record old { places = ps }) t) (sym places_are)
-        (holds_plain steady old state t k (Here disk_new) v w holds by_role volume.found.there volumes groups other name_is blocks shows)
+        (holds_plain steady old state t k (Here disk_new) v w holds by_role volume.found.there volumes groups disks other name_is blocks shows)
 
     -- it is done
     pub plain_done : {T E : Type 0} (x : T) → Writes {T = T} {E = E} disk at bytes (Ok x) disk_new → Holds steady new (after_stages state (write_stages state.p P name at bs (use_of state.p name)))
@@ -84,7 +80,7 @@ module _ (old : StoreView) (places : List (Place Seen)) (target : Target) (at le
         let shows = plain_written {T = T} {E = E} steady at bytes (Ok x) disk disk_new v image v.armed volume.found.is volume.told writes image_is marked in
         subst (λ (u : Use). Holds steady new (after_stages state (write_stages state.p P name at bs u))) (sym volume.alone)
         (holds_volume (with_image state P name image) (record v { image = image })
-        (with_volume_of-place state.p.volumes name (λ w. record w { image = image }) k v volume.found.here volume.found.there) refl refl refl refl shows)
+        (with_volume_of-place state.p.volumes name (λ w. record w { image = image }) k v volume.found.here volume.found.there) refl refl refl refl refl shows)
 
     -- it is stopped: the volume has such an image, and no tear is armed on it any more where it was met
     module _ {T E : Type 0} (e : E) (writes : Writes {T = T} {E = E} disk at bytes (Err e) disk_new) where
@@ -115,7 +111,7 @@ module _ (old : StoreView) (places : List (Place Seen)) (target : Target) (at le
           let spent = writes.spent (volume.steady_is ∙ is_steady) in
           let was_armed : v.armed ≡ true =
           sym (λ i. is_steady i && v.armed) ∙ sym (ap (λ (s : Shown). s.armed) volume.found.is) ∙ (λ i. (volume.steady_is ∙ is_steady) i && spent.was_armed i) in
-          let marked : (disk_new.steady && disk_new.armed) ≡ (steady && false) = λ i. (writes.steady ∙ volume.steady_is) i && not_true disk_new.armed spent.is_used i in
+          let marked : (disk_new.steady && disk_new.armed) ≡ (steady && false) = λ i. (writes.steady ∙ volume.steady_is) i && not-true disk_new.armed spent.is_used i in
           let shows = plain_written {T = T} {E = E} steady at bytes (Err e) disk disk_new v disk_new.image false volume.found.is volume.told writes refl marked in
           let mid = with_armed state P (OfVolume name) false in
           let in_mid : volume_of mid.p name ≡ Some (unarm v) = volume_of-changed name unarm (λ w. refl) state.p.volumes ∙ ap (option_map unarm) volume.found.named in
@@ -133,7 +129,7 @@ module _ (old : StoreView) (places : List (Place Seen)) (target : Target) (at le
             left = with_image mid P name disk_new.image;
             stopped = stopped_at mid refl mid_image;
             holds = holds_volume (with_image mid P name disk_new.image) (show (unarm v))
-                (changed_twice name unarm (λ w. refl) state.p.volumes show ∙ with_volume_of-place state.p.volumes name (λ w. show (unarm w)) k v volume.found.here volume.found.there) refl refl refl refl shows;
+                (changed_twice name unarm (λ w. refl) state.p.volumes show ∙ with_volume_of-place state.p.volumes name (λ w. show (unarm w)) k v volume.found.here volume.found.there) refl refl refl refl refl shows;
             place = place_at (with_image mid P name disk_new.image) refl
                 (looks_same mid.p.volumes name show (λ w. refl) ∙ looks_same state.p.volumes name unarm (λ w. refl));
           }
@@ -148,7 +144,7 @@ module _ (old : StoreView) (places : List (Place Seen)) (target : Target) (at le
             tear = inr (other, refl);
             left = with_image state P name disk_new.image;
             stopped = stopped_at state refl refl;
-            holds = holds_volume (with_image state P name disk_new.image) (show v) (with_volume_of-place state.p.volumes name show k v volume.found.here volume.found.there) refl refl refl refl shows;
+            holds = holds_volume (with_image state P name disk_new.image) (show v) (with_volume_of-place state.p.volumes name show k v volume.found.here volume.found.there) refl refl refl refl refl shows;
             place = place_at (with_image state P name disk_new.image) refl (looks_same state.p.volumes name show (λ w. refl));
           }
 

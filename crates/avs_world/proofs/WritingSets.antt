@@ -1,10 +1,10 @@
 -- What writing blocks of a set's master or shadow makes of a store.
-use Rattle.std.proofs.Common.{◌≡◌, ◌≢◌, ◌⊎◌, ℕ, zero, suc, ◌==◌, Bool, true, false, ◌&&◌, Option, Some, Ok, Err, List, [], ◌∷◌, map, refl, sym, ◌∙◌, ap, subst, inl, inr}
+use Rattle.std.proofs.Common.{◌≡◌, ◌⊎◌, ℕ, zero, suc, Bool, true, false, ◌&&◌, Option, Some, Ok, Err, List, [], ◌∷◌, map, refl, sym, ◌∙◌, ap, subst, inl, inr}
 use Rattle.std.specs.Prelude.{IsTrue, Result, slice_set}
 use Rattle.std.specs.List.{slice_get, position}
 use Rattle.std.specs.Option.{option_map_or}
 use Rattle.std.specs.Str.{bytes_eq}
-use Rattle.std.proofs.lemmas.Bool.{cases_Bool, false≢true, cond-true, cond-false, eq-eqb, ne_eqb}
+use Rattle.std.proofs.lemmas.Bool.{cases_Bool, false≢true}
 use Rattle.std.proofs.lemmas.Option.{same_Some}
 use Rattle.avs_seg.specs.Image.{Image, blocks_of}
 use Rattle.avs_dev.specs.Devices.{UsesOneTear}
@@ -18,41 +18,27 @@ use Rattle.avs_model.specs.declared.event.Host.TheVariants.{P}
 use Rattle.avs_model.specs.declared.answer.Refusal.{Refusal}
 use Rattle.avs_model.specs.declared.answer.Refusal.TheVariants.{Fault}
 use Rattle.avs_model.specs.declared.answer.Role.{Role}
-use Rattle.avs_model.specs.declared.answer.Role.TheVariants.{Master, Shadow, Bitmap, Plain}
+use Rattle.avs_model.specs.declared.answer.Role.TheVariants.{Master, Shadow, Bitmap}
 use Rattle.avs_model.proofs.Volumes.{with_volume_of-place}
 use Rattle.avs_world.proofs.Within.{holding, group_in, within, after_within, stopped_within}
 use Rattle.avs_ii.specs.Held.{IiDisks, disks_of, is_live, set_at}
 use Rattle.avs_ii.specs.Meaning.{kept_on, meaning}
 use Rattle.avs_ii.specs.Sound.{IsSound}
 use Rattle.avs_ii.specs.Parts.{parts_of}
-use Rattle.avs_ii.specs.Making.{AreTold, AreWhole}
-use Rattle.avs_ii.specs.Calls.{armed_of, are_steady}
+use Rattle.avs_ii.specs.Calls.{armed_of, are_steady, IsFoundAgain}
 use Rattle.avs_world.specs.declared.group.ShadowSet.{ShadowSet}
 use Rattle.avs_world.specs.declared.ranges.Target.{Target}
 use Rattle.avs_world.specs.Views.{GroupView, InMemory, OnDisks, StoreView, FourDisks, closed, SameApart, IsSameApart}
 use Rattle.avs_world.specs.Ranges.{role_in, IsReached}
 use Rattle.avs_world.specs.Causes.{group_disks}
-use Rattle.avs_world.specs.Holds.{Shown, kept, gone, shown, expected, shown_with, name_at, group_with, AreGroups, HoldsSet, HoldsBy, Holds, IsPhase}
+use Rattle.avs_world.specs.Holds.{Shown, kept, gone, shown, expected, shown_with, name_at, group_with, AreGroups, HoldsSet, HoldsBy, Holds, IsPhase, disks_made}
 use Rattle.avs_world.specs.Calls.{IsOf, WritesMaster, WritesShadow, StopsWrite, SamePlace, IsEnabled, WritesOpen}
-use Rattle.avs_world.proofs.Holding.{Found, holds_changed, three_volumes, use_as, use_in_set}
-use Rattle.avs_world.proofs.Tears.{four, kept_marked, gone_marked, master_marked, shadow_marked, bitmap_marked}
-use Rattle.avs_world.proofs.OneSet.{found_master, found_shadow, found_bitmap}
-use Rattle.avs_world.proofs.Staying.{AreFourTold, KeepsGroup, StaysOne, set_with, shown_unarmed, shown_live, stays, same_state, old_one, blocks_same, old_told, new_told, old_disks, new_disks, marks, kept_same, gone_same}
+use Rattle.avs_world.proofs.Holding.{Found, holds_changed, open_shows, three_volumes, use_as, use_in_set}
+use Rattle.avs_world.proofs.Tears.{four, StaysOne, hidden_marked, master_marked, shadow_marked, bitmap_marked}
+use Rattle.avs_world.proofs.OneSet.{role_master, role_shadow, role_bitmap, found_master, found_shadow, found_bitmap}
+use Rattle.avs_world.proofs.Staying.{AreFourTold, KeepsGroup, set_with, shown_unarmed, stays, same_state, old_one, blocks_same, old_told, new_told, old_disks, new_disks, marks, hidden_same}
 use Rattle.avs_world.proofs.SamePlaces.{look, looks_same, size_same, same_place}
 use Rattle.avs_world.proofs.Reading.{group_held, only_group, used_as, all_steady, opened_still, rose_in, set_reached, why_fault}
-
--- What the volumes of a set serve as.
-role_master : (set : ShadowSet) → role_in set set.master ≡ Master
-role_master set = cond-true (set.master == set.master) Master _ (eq-eqb set.master set.master refl)
-
-role_shadow : (set : ShadowSet) → set.shadow ≢ set.master → role_in set set.shadow ≡ Shadow
-role_shadow set differs = cond-false (set.shadow == set.master) Master _ (ne_eqb set.shadow set.master differs) ∙ cond-true (set.shadow == set.shadow) Shadow _ (eq-eqb set.shadow set.shadow refl)
-
-role_bitmap : (set : ShadowSet) → set.bitmap ≢ set.master → set.bitmap ≢ set.shadow → role_in set set.bitmap ≡ Bitmap
-role_bitmap set master shadow =
-    cond-false (set.bitmap == set.master) Master _ (ne_eqb set.bitmap set.master master)
-    ∙ cond-false (set.bitmap == set.shadow) Shadow _ (ne_eqb set.bitmap set.shadow shadow)
-    ∙ cond-true (set.bitmap == set.bitmap) Bitmap Plain (eq-eqb set.bitmap set.bitmap refl)
 
 -- What a call that writes makes of a group: all its stages are done, or it is stopped.
 pub record IsWritten (old new : IiDisks) (stages : List GroupStage) : Type 0 where
@@ -65,7 +51,7 @@ pub record IsStopped (old new : IiDisks) (stages : List GroupStage) : Type 0 whe
   pub keeps : KeepsGroup old new
   pub spent : IsTrue (are_steady old) → UsesOneTear (armed_of old) (armed_of new)
   pub stopped : IsSound old → shadows.StoppedIn (meaning old) stages (meaning new)
-  pub whole : IsSound old → AreTold (parts_of old) → AreWhole (parts_of new)
+  pub whole : IsFoundAgain old new
 
 -- The tear that was met is one of the set's three volumes.
 data TornOn (m s b m' s' b' : Bool) : Type 0 where
@@ -94,6 +80,9 @@ module _ (steady : Bool) (old : StoreView) (set : ShadowSet) (held new : IiDisks
   abbrev group : ShadowGroup
   group = group_with old.names set (meaning held) are.0
 
+  same_made : 1 ≡ state.p.state_disks
+  same_made = sym (ap disks_made was) ∙ holds.same_disks
+
   pub set_done : IsWritten held new stages → Holds steady (record old { group = InMemory set new }) (after_stages state (write_stages state.p P name at blocks (use_of state.p name)))
   set_done written =
       let left = holding state (group_in group (shadows.after_stages (meaning held) stages)) in
@@ -105,6 +94,7 @@ module _ (steady : Bool) (old : StoreView) (set : ShadowSet) (held new : IiDisks
         same_names = holds.same_names;
         same_blocks = holds.same_blocks;
         no_other = holds.no_other;
+        same_disks = same_made;
         by = (
           opened_still steady old.names old.places set held new state.p.volumes state.p.groups written.keeps by.0 (written.sound by.0.sound) by.1,
           set_with steady old.names old.places set held new (meaning held) state.p.volumes state.p.groups by.0 by.1 written.keeps are state.p.volumes (meaning new) left.p.groups shows
@@ -130,7 +120,7 @@ module _ (steady : Bool) (old : StoreView) (set : ShadowSet) (held new : IiDisks
     -- the disks hold the group, with these volumes
     apart_by : (vs : List VolumeState) → shown_with old.places set disks true ≡ map (expected steady) vs → HoldsBy steady old.names old.places (OnDisks set (parts_of new)) vs (group_in group (meaning new) ∷ [])
     apart_by vs shows = (
-      record { told = stopped.keeps.told by.0.told; whole = stopped.whole by.0.sound by.0.told },
+      record { told = stopped.keeps.told by.0.told; whole = stopped.whole.after by.0.told (stopped.whole.before by.0.sound) },
       subst (λ (g : GroupState). HoldsSet steady old.names old.places set (parts_of new) g vs (group_in group (meaning new) ∷ [])) (sym same.meaning)
           (set_with steady old.names old.places set held new (meaning held) state.p.volumes state.p.groups by.0 by.1 stopped.keeps are vs (meaning new) (group_in group (meaning new) ∷ []) shows refl),
     )
@@ -148,20 +138,20 @@ module _ (steady : Bool) (old : StoreView) (set : ShadowSet) (held new : IiDisks
     stayed = stays steady old.names old.places set held new (meaning held) state.p.volumes state.p.groups by.0 by.1 stopped.keeps
 
     was_shown : shown_with old.places set was_disks true ≡ map (expected steady) state.p.volumes
-    was_shown = shown_live steady old.names old.places set held new (meaning held) state.p.volumes state.p.groups by.0 by.1 stopped.keeps
+    was_shown = open_shows steady old.names old.places set held state.p.volumes state.p.groups by.0 by.1
 
     shown_by : (b m s : Shown) → gone disks.bitmap ≡ b → kept disks.master ≡ m → kept disks.shadow ≡ s
         → shown_with old.places set disks true ≡ slice_set (slice_set (slice_set (map shown old.places) set.bitmap b) set.master m) set.shadow s
     shown_by b m s is_b is_m is_s = λ i. slice_set (slice_set (slice_set (map shown old.places) set.bitmap (is_b i)) set.master (is_m i)) set.shadow (is_s i)
 
     same_master : disks.master.armed ≡ was_disks.master.armed → kept disks.master ≡ kept was_disks.master
-    same_master = kept_same was_disks.master disks.master stayed.master was_told.master is_told.master
+    same_master = hidden_same was_disks.master disks.master stayed.master was_told.master is_told.master false
 
     same_shadow : disks.shadow.armed ≡ was_disks.shadow.armed → kept disks.shadow ≡ kept was_disks.shadow
-    same_shadow = kept_same was_disks.shadow disks.shadow stayed.shadow was_told.shadow is_told.shadow
+    same_shadow = hidden_same was_disks.shadow disks.shadow stayed.shadow was_told.shadow is_told.shadow false
 
     same_bitmap : disks.bitmap.armed ≡ was_disks.bitmap.armed → gone disks.bitmap ≡ gone was_disks.bitmap
-    same_bitmap = gone_same was_disks.bitmap disks.bitmap stayed.bitmap was_told.bitmap is_told.bitmap
+    same_bitmap = hidden_same was_disks.bitmap disks.bitmap stayed.bitmap was_told.bitmap is_told.bitmap true
 
     -- disks that are not steady show nothing of a tear
     shown_other : steady ≡ false → shown_with old.places set disks true ≡ map (expected steady) state.p.volumes
@@ -171,9 +161,9 @@ module _ (steady : Bool) (old : StoreView) (set : ShadowSet) (held new : IiDisks
         let s = three.shadow.volume in
         let b = three.bitmap.volume in
         shown_by (gone was_disks.bitmap) (kept was_disks.master) (kept was_disks.shadow)
-        (gone_marked steady was_disks.bitmap disks.bitmap b.armed b (marks was_disks.bitmap disks.bitmap stayed.bitmap was_told.bitmap is_told.bitmap steady b.armed (λ is. absurd (false≢true (sym other ∙ is)))) three.bitmap.is ∙ sym three.bitmap.is)
-        (kept_marked steady was_disks.master disks.master m.armed m (marks was_disks.master disks.master stayed.master was_told.master is_told.master steady m.armed (λ is. absurd (false≢true (sym other ∙ is)))) three.master.is ∙ sym three.master.is)
-        (kept_marked steady was_disks.shadow disks.shadow s.armed s (marks was_disks.shadow disks.shadow stayed.shadow was_told.shadow is_told.shadow steady s.armed (λ is. absurd (false≢true (sym other ∙ is)))) three.shadow.is ∙ sym three.shadow.is)
+        (hidden_marked steady was_disks.bitmap disks.bitmap b.armed b (marks was_disks.bitmap disks.bitmap stayed.bitmap was_told.bitmap is_told.bitmap steady b.armed (λ is. absurd (false≢true (sym other ∙ is)))) true three.bitmap.is ∙ sym three.bitmap.is)
+        (hidden_marked steady was_disks.master disks.master m.armed m (marks was_disks.master disks.master stayed.master was_told.master is_told.master steady m.armed (λ is. absurd (false≢true (sym other ∙ is)))) false three.master.is ∙ sym three.master.is)
+        (hidden_marked steady was_disks.shadow disks.shadow s.armed s (marks was_disks.shadow disks.shadow stayed.shadow was_told.shadow is_told.shadow steady s.armed (λ is. absurd (false≢true (sym other ∙ is)))) false three.shadow.is ∙ sym three.shadow.is)
         ∙ was_shown
 
     -- as many blocks of the volume are reached
@@ -194,6 +184,7 @@ module _ (steady : Bool) (old : StoreView) (set : ShadowSet) (held new : IiDisks
         same_names = holds.same_names;
         same_blocks = holds.same_blocks;
         no_other = holds.no_other;
+        same_disks = same_made;
         by = apart_by state.p.volumes (shown_other other);
       };
       place = place_in reaches state refl;
@@ -222,7 +213,7 @@ module _ (steady : Bool) (old : StoreView) (set : ShadowSet) (held new : IiDisks
             left = left_in mid;
             stopped = stops_in mid refl;
             holds = holds_changed state.p.volumes k v (unarm v) f.there steady old state (left_in mid) old.places (OnDisks set (parts_of new)) holds refl
-                (with_volume_of-place state.p.volumes volume unarm k v f.here f.there) refl refl refl (apart_by mid.p.volumes shows);
+                (with_volume_of-place state.p.volumes volume unarm k v f.here f.there) refl refl refl same_made (apart_by mid.p.volumes shows);
             place = place_in reaches mid (looks_same state.p.volumes volume unarm (λ w. refl));
           }
 

@@ -1,16 +1,20 @@
--- What arming a tear makes of the disks of a world.
-use Rattle.std.specs.Prelude.{◌≡◌, ℕ, ◌<◌, Bool, true, false, Some, List, length, position, slice_get}
+-- What arming a tear makes of the disks of a world, and what is answered.
+use Rattle.std.specs.Prelude.{◌≡◌, ℕ, ◌<◌, Bool, true, false, ⊤, Some, List, length, position, slice_get}
 use Rattle.std.specs.Str.{bytes_eq}
 use Rattle.avs_model.specs.declared.answer.Role.{Role}
 use Rattle.avs_model.specs.declared.answer.Role.TheVariants.{Master, Shadow, Bitmap, Plain}
 use Rattle.avs_model.specs.declared.event.ArmTarget.{ArmTarget}
 use Rattle.avs_model.specs.declared.event.ArmTarget.TheVariants as disk
+use Rattle.avs_model.specs.declared.event.Event.{Event}
+use Rattle.avs_model.specs.declared.event.Event.TheVariants.{Arm}
+use Rattle.avs_model.specs.declared.answer.Answer.{Answer}
+use Rattle.avs_model.specs.declared.answer.Answer.TheVariants.{Done, Refused}
 use Rattle.avs_ii.specs.Held.{IiDisks}
 use Rattle.avs_ii.specs.Calls.{ArmsGroup}
 use Rattle.avs_world.specs.Views.{GroupView, NoGroup, FreeDisk, InMemory, OnDisks, StoreView}
 use Rattle.avs_world.specs.Ranges.{disk_here, role_by}
 use Rattle.avs_world.specs.Places.{ArmsPlace}
-use Rattle.avs_world.specs.Causes.{number_of}
+use Rattle.avs_world.specs.Causes.{number_of, target_disk, ArmsAsDisk}
 
 -- a tear is armed on a disk of the group in memory, by its number; where no group is there, nothing changes
 abbrev pub ArmsView : GroupView → ℕ → Bool → GroupView → Type 0
@@ -48,3 +52,19 @@ is_group (OnDisks set parts) name = false
 abbrev pub ArmsTarget : StoreView → ArmTarget → Bool → StoreView → Type 0
 ArmsTarget old (disk.Volume name) result new = (place : ℕ) × (position (bytes_eq name) old.names ≡ Some place) × (place < length old.places) × ArmsVolume old place result new
 ArmsTarget old (disk.StateOf group) result new = (is_group old.group group ≡ true) × ArmsLent old (number_of Plain) result new
+
+-- at `Done` a tear is armed on that disk and all else stays, at a refusal all stays, and there is no other answer
+abbrev pub ArmsAsTold : StoreView → ArmTarget → StoreView → Answer → Type 0
+ArmsAsTold old target new Done = ArmsTarget old target true new
+ArmsAsTold old target new (Refused why) = new ≡ old
+ArmsAsTold old target new answer = ⊥
+
+-- what is answered to arming has its cause in the disk that the target names, and tells what was done
+pub record AnswersArm (old : StoreView) (target : ArmTarget) (new : StoreView) (answer : Answer) : Type 0 where
+  pub as_disk : ArmsAsDisk (target_disk old target) answer
+  pub as_told : ArmsAsTold old target new answer
+
+-- at an event that arms; of the others nothing more is said
+abbrev pub ArmHasCause : StoreView → Event → StoreView → Answer → Type 0
+ArmHasCause old (Arm host target skip first count) new answer = AnswersArm old target new answer
+ArmHasCause old event new answer = ⊤

@@ -8,8 +8,6 @@ use Rattle.avs_model.specs.declared.answer.Role.{Role}
 use Rattle.avs_model.specs.declared.answer.Role.TheVariants.{Master, Shadow, Bitmap, Plain}
 use Rattle.avs_model.specs.declared.event.ArmTarget.{ArmTarget}
 use Rattle.avs_model.specs.declared.event.ArmTarget.TheVariants as disk
-use Rattle.avs_model.specs.declared.event.Event.{Event}
-use Rattle.avs_model.specs.declared.event.Event.TheVariants.{Arm}
 use Rattle.avs_model.specs.declared.answer.Word.TheVariants.{Unarmed}
 use Rattle.avs_model.specs.declared.answer.Refusal.TheVariants.{WrongState}
 use Rattle.avs_model.specs.declared.answer.Answer.{Answer}
@@ -85,8 +83,3 @@ abbrev pub ArmsAsDisk : Option Seen → Answer → Type 0
 ArmsAsDisk (Some held) Done = IsTrue held.arms
 ArmsAsDisk (Some held) (Refused (WrongState Unarmed)) = IsTrue (not held.arms)
 ArmsAsDisk held answer = ⊤
-
--- the answer to `arm` has its cause in the disk
-abbrev pub ArmHasCause : StoreView → Event → Answer → Type 0
-ArmHasCause old (Arm host target skip first count) answer = ArmsAsDisk (target_disk old target) answer
-ArmHasCause old event answer = ⊤

@@ -61,6 +61,13 @@ IsFree (FreeDisk disk) = state_blocks ≤ disk.size
 IsFree (InMemory set held) = ⊥
 IsFree (OnDisks set parts) = ⊥
 
+-- no state disk is free
+abbrev pub HasNoFree : GroupView → Type 0
+HasNoFree NoGroup = ⊤
+HasNoFree (FreeDisk disk) = ⊥
+HasNoFree (InMemory set held) = ⊤
+HasNoFree (OnDisks set parts) = ⊤
+
 -- why there can be no other group
 abbrev pub GroupRefused : GroupView → Refusal → Type 0
 GroupRefused NoGroup why = ⊥

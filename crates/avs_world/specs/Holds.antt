@@ -91,7 +91,8 @@ group_with names set state armed = record {
 abbrev pub is_enabled : ShadowSet → PartDisks → Bool
 is_enabled set parts = is_live (kept_on parts.state).slots set.slot
 
--- the state has this group where the set is enabled, and else none, and no tear is then armed on the state disk
+-- the state has this group where the set is enabled, and else none. Over steady disks a tear is armed on the state disk where the
+-- group says so, and none is where there is no group
 abbrev pub AreGroups : Bool → List (List ℕ) → ShadowSet → GroupState → Seen → Bool → List ShadowGroup → Type 0
 AreGroups steady names set state disk true groups = (armed : Bool) × (groups ≡ group_with names set state armed ∷ []) × (steady ≡ true → disk.armed ≡ armed)
 AreGroups steady names set state disk false groups = (groups ≡ []) × (steady ≡ true → disk.armed ≡ false)
@@ -135,11 +136,19 @@ HoldsBy steady names places (FreeDisk disk) volumes groups =
 HoldsBy steady names places (InMemory set held) volumes groups = IsOpen set held × HoldsSet steady names places set (parts_of held) (meaning held) volumes groups
 HoldsBy steady names places (OnDisks set parts) volumes groups = IsApart parts × HoldsSet steady names places set parts (meaning_of_parts parts) volumes groups
 
+-- how many disks were made for the states of groups
+abbrev pub disks_made : GroupView → ℕ
+disks_made NoGroup = 0
+disks_made (FreeDisk disk) = 1
+disks_made (InMemory set held) = 1
+disks_made (OnDisks set parts) = 1
+
 -- a store holds the volumes and the groups of host p, and host s has none
 pub record Holds (steady : Bool) (store : StoreView) (state : State) : Type 0 where
   pub same_names : store.names ≡ map (λ volume. volume.name) state.p.volumes
   pub same_blocks : store.blocks ≡ all_blocks state
   pub no_other : state.s ≡ empty_host
+  pub same_disks : disks_made store.group ≡ state.p.state_disks
   pub by : HoldsBy steady store.names store.places store.group state.p.volumes state.p.groups
 
 -- the group is in memory while the host is up, and on its disks while it is down

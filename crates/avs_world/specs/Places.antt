@@ -50,6 +50,7 @@ pub record Lends (old : List (Place Seen)) (place : ℕ) (disk : Seen) (spent : 
   pub was : slice_get old place ≡ Some (place_of spent disk)
   pub is : new ≡ slice_set old place Lent
 
--- it is not here
+-- it is not here, and all stays
 pub record LendsNone (old : List (Place Seen)) (place : ℕ) (new : List (Place Seen)) : Type 0 where
   pub none : disk_here (slice_get old place) ≡ None
+  pub same : new ≡ old

@@ -1,5 +1,5 @@
 -- The steps of bringing the host up again.
-use Rattle.std.specs.Prelude.{◌≡◌, ◌≤◌, ℕ, ⊤, Bool, true, false, List, map, None, Some, Result, Ok, Err}
+use Rattle.std.specs.Prelude.{◌≡◌, ◌≤◌, ℕ, ⊤, Bool, true, false, List, map, Option, None, Some, Result, Ok, Err}
 use Rattle.avs_dev.specs.Seen.{Seen}
 use Rattle.avs_dev.specs.declared.back.Why.{Why}
 use Rattle.avs_dev.specs.declared.back.Why.TheVariants.{Size, BadRecord, NoMemory, Fault}
@@ -13,6 +13,7 @@ use Rattle.avs_model.specs.declared.event.Event.TheVariants.{Recover}
 use Rattle.avs_model.specs.declared.recovered.Second.{Second}
 use Rattle.avs_model.specs.declared.recovered.Second.TheVariants.{Kept, Done}
 use Rattle.avs_model.specs.declared.answer.Answer.{Answer}
+use Rattle.avs_model.specs.declared.answer.Answer.TheVariants.{Up}
 use Rattle.avs_ii.specs.Held.{IiDisks, is_live}
 use Rattle.avs_ii.specs.Meaning.{meaning}
 use Rattle.avs_ii.specs.Sound.{IsSound}
@@ -20,10 +21,11 @@ use Rattle.avs_ii.specs.Parts.{PartDisks, parts_of}
 use Rattle.avs_ii.specs.Making.{AreTold}
 use Rattle.avs_world.specs.declared.place.Place.{Place}
 use Rattle.avs_world.specs.declared.group.ShadowSet.{ShadowSet}
+use Rattle.avs_world.specs.declared.stopped.Stopped.{Stopped}
 use Rattle.avs_world.specs.declared.stopped.StoppedWrite.{StoppedWrite}
 use Rattle.avs_world.specs.declared.world.World.{World}
 use Rattle.avs_world.specs.Views.{GroupView, NoGroup, FreeDisk, InMemory, OnDisks, StoreView}
-use Rattle.avs_world.specs.Holds.{Holds, HoldsBy, HoldsSet, IsPhase, is_enabled}
+use Rattle.avs_world.specs.Holds.{Holds, HoldsBy, HoldsSet, IsPhase, is_enabled, disks_made}
 use Rattle.avs_world.specs.Causes.{DiskName, DiskRose, faults_of, was_there}
 use Rattle.avs_world.specs.Calls.{IsEnabled}
 use Rattle.avs_world.specs.World.{Stands, event_of}
@@ -45,6 +47,7 @@ pub record HoldsFound (steady : Bool) (store : StoreView) (state : State) : Type
   pub same_names : store.names ≡ map (λ volume. volume.name) state.p.volumes
   pub same_blocks : store.blocks ≡ all_blocks state
   pub no_other : state.s ≡ empty_host
+  pub same_disks : disks_made store.group ≡ state.p.state_disks
   pub by : FoundBy steady store.names store.places store.group state.p.volumes state.p.groups
 
 -- the group is in memory, or there is none; where its set is enabled the store holds the same; no disk has a new name, and no
@@ -57,7 +60,7 @@ pub record IsFound (old new : StoreView) : Type 0 where
   pub later : (name : DiskName) → faults_of old name ≤ faults_of new name
 
 -- a disk failed while the group was looked for, and all is as before
-pub record IsLost (old new : StoreView) : Type 0 where
+pub record FailsFinding (old new : StoreView) : Type 0 where
   pub set : ShadowSet
   pub parts : PartDisks
   pub others : PartDisks
@@ -74,7 +77,7 @@ Finds old (Ok x) new = IsFound old new
 Finds old (Err (Size need have)) new = ⊥
 Finds old (Err (BadRecord field)) new = (steady : Bool) (state : State) → Holds steady old state → ⊥
 Finds old (Err NoMemory) new = ⊤
-Finds old (Err Fault) new = IsLost old new
+Finds old (Err Fault) new = FailsFinding old new
 
 -- whether the command that was stopped stands: where the group is in memory
 abbrev pub second_by : GroupView → Second
@@ -102,3 +105,8 @@ pub record IsWaiting (steady : Bool) (store : StoreView) (write : StoppedWrite) 
 -- then the answer is right, and the world then stands for a next state
 abbrev pub RecoversWrite : {D : Type 0} → (D → Seen) → StoreView → StoppedWrite → Answer → World D → Type 0
 RecoversWrite seen old write answer new = (steady : Bool) (state : State) → IsWaiting steady old write state → (next : State) × (Step steady state (Recover P) answer next) × (Stands seen steady new next)
+
+-- what is kept of the event in which a fault stopped the host stays, where the host does not come up
+abbrev pub KeepsStopped : Option Stopped → Option Stopped → Answer → Type 0
+KeepsStopped old new (Up told) = ⊤
+KeepsStopped old new answer = new ≡ old

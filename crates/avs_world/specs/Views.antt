@@ -6,7 +6,7 @@ use Rattle.avs_ii.specs.Held.{IiDisks, disks_of}
 use Rattle.avs_ii.specs.Meaning.{meaning}
 use Rattle.avs_ii.specs.Parts.{PartDisks, part_disks, parts_of, meaning_of_parts}
 use Rattle.avs_ii.specs.Sound.{IsSound}
-use Rattle.avs_ii.specs.Making.{AreTold, AreWhole, disks_in}
+use Rattle.avs_ii.specs.Making.{AreWhole, disks_in}
 use Rattle.avs_world.specs.declared.place.Place.{Place}
 use Rattle.avs_world.specs.declared.place.Place.TheVariants as place
 use Rattle.avs_world.specs.declared.group.ShadowSet.{ShadowSet}
@@ -80,7 +80,7 @@ closed (OnDisks set parts) = OnDisks set parts
 pub record IsSameApart (held : IiDisks) : Type 0 where
   pub meaning : meaning_of_parts (parts_of held) ≡ meaning held
   pub disks : disks_in (parts_of held) ≡ disks_of held
-  pub whole : IsSound held → AreTold (parts_of held) → AreWhole (parts_of held)
+  pub whole : IsSound held → AreWhole (parts_of held)
 
 abbrev pub SameApart : GroupView → Type 0
 SameApart NoGroup = Unit {0}

@@ -41,11 +41,12 @@ impl<D: Arm> World<D> {
     ghost use Rattle.avs_model.specs.Refusals.{enable_causes};
     ghost use Rattle.avs_model.specs.Promise.{AsksForDisk};
     ghost use Rattle.avs_ii.specs.Calls.{blocks_at};
+    ghost use Rattle.avs_ii.specs.Making.{state_blocks};
     ghost use Rattle.avs_world.specs.Views.{group_view, view_of, FreeDisk};
     ghost use Rattle.avs_world.specs.Holds.{Holds, IsPhase};
     ghost use Rattle.avs_world.specs.Causes.{FaultHasCause};
     ghost use Rattle.avs_world.specs.Ranges.{reach};
-    ghost use Rattle.avs_world.specs.Enabling.{IsNamedTarget, size_causes, IsFree, GroupRefused, IsChosen, TakesState, StartsGroup, places_back, HasThree, Commits, Fills, LendsTo};
+    ghost use Rattle.avs_world.specs.Enabling.{IsNamedTarget, size_causes, IsFree, HasNoFree, GroupRefused, IsChosen, TakesState, StartsGroup, places_back, HasThree, Commits, Fills, LendsTo};
     ghost use Rattle.avs_world.specs.World.{Stands, Steps};
 
     // The volume of that name.
@@ -123,6 +124,7 @@ impl<D: Arm> World<D> {
         ensures steady { (R.seen rack.new).steady ≡ (R.seen rack.old).steady }
         ensures later { (R.seen rack.old).faults ≤ (R.seen rack.new).faults }
         ensures refused { result ≡ Err WorldFault.Rack → Rose (R.seen rack.old).faults (R.seen rack.new).faults }
+        ensures needed { result ≡ Err WorldFault.Rack → HasNoFree (group_view D.seen self.old.group) }
     {
         match mem::replace(&mut self.group, Group::None) {
             Group::Free(disk) => Ok(disk),
@@ -139,7 +141,7 @@ impl<D: Arm> World<D> {
 
     // A group on that state disk. Where the disk fails there is none, and the disk is free again.
     fn start_group(&mut self, alloc: Global, disk: D) -> Result<Option<IiGroup<D>>, WorldFault>
-        requires { 64 ≤ (D.seen disk).size }
+        requires { state_blocks ≤ (D.seen disk).size }
         ensures starts { IfOk result (λ group. StartsGroup (D.seen disk) (group_view D.seen self.old.group) group (group_view D.seen self.new.group)) }
         ensures shelf { self.new.shelf ≡ self.old.shelf }
         ensures up { self.new.up ≡ self.old.up }
@@ -301,12 +303,12 @@ impl<D: Arm> World<D> {
         let name = shadow.copy(alloc)?;
         let disk = self.state_disk(alloc, rack)?;
         let Some(group) = self.start_group(alloc, disk)? else {
-            return Ok(self.stop(Some(Stopped::Command)));
+            return Ok(self.stop(alloc, Some(Stopped::Command)));
         };
         if self.lend_to(alloc, chosen, name, group)? {
             Ok(Answer::Done)
         } else {
-            Ok(self.stop(Some(Stopped::Command)))
+            Ok(self.stop(alloc, Some(Stopped::Command)))
         }
     }
 }

@@ -98,10 +98,7 @@ impl<D: Arm> Shelf<D> {
         requires { place < length (places_of D.seen self.now) }
         ensures { result ≡ is_gone (slice_get (places_of D.seen self.now) place) }
     {
-        match &self.places[place] {
-            Place::Spent(_) => true,
-            Place::Here(_) | Place::Lent => false,
-        }
+        matches!(&self.places[place], Place::Spent(_))
     }
 
     // Reads blocks of its disk.

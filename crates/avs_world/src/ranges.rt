@@ -16,7 +16,7 @@ use avs_text::fill;
 use std::alloc::Global;
 use std::mem;
 
-const LONGEST_WRITE: u32 = 256;
+pub(crate) const LONGEST_WRITE: u32 = 256;
 
 const LONGEST_READ: u32 = 4096;
 
@@ -157,14 +157,15 @@ impl<D: Arm> World<D> {
         }
     }
 
-    // A fault stops the host, by an event of which this is told.
-    pub(crate) fn stop(&mut self, stopped: Option<Stopped>) -> Answer
+    // A fault stops the host, by an event of which this is told. No buffer stays.
+    pub(crate) fn stop(&mut self, alloc: Global, stopped: Option<Stopped>) -> Answer
         ensures told { result ≡ Answer.Faulted Host.P }
         ensures apart { (view_of D.seen self.new) ≡ record (view_of D.seen self.old) { group = closed (view_of D.seen self.old).group } }
         ensures same { SameApart (view_of D.seen self.old).group }
         ensures up { self.new.up ≡ false }
         ensures stopped { self.new.stopped ≡ stopped }
     {
+        self.spare = Vec::new(alloc);
         self.group.close();
         self.stopped = stopped;
         self.up = false;
@@ -190,7 +191,7 @@ impl<D: Arm> World<D> {
         let bytes = filled(mem::replace(&mut self.spare, Vec::new(alloc)), pattern, len)?;
         let Ok(()) = self.write_at(target, at, &bytes) else {
             let write = StoppedWrite::new(alloc, volume, at, len, pattern)?;
-            return Ok(self.stop(Some(Stopped::Write(write))));
+            return Ok(self.stop(alloc, Some(Stopped::Write(write))));
         };
         self.spare = bytes;
         Ok(Answer::Done)
@@ -214,7 +215,7 @@ impl<D: Arm> World<D> {
         let mut bytes = sized(mem::replace(&mut self.spare, Vec::new(alloc)), len)?;
         match self.read_at(target, at, &mut bytes) {
             Ok(()) => Ok(Answer::Shown(Blocks::new(bytes))),
-            Err(Failed) => Ok(self.stop(None)),
+            Err(Failed) => Ok(self.stop(alloc, None)),
         }
     }
 }

@@ -1,10 +1,10 @@
 // Bringing the host up again.
-ghost use Rattle.std.specs.Prelude.{◌≡◌, Bool, true, Err, IfOk, OnErr, OnOk, None, map};
+ghost use Rattle.std.specs.Prelude.{◌≡◌, Bool, true, Err, IfOk, OnErr, OnOk, None, Some, map};
 ghost use Rattle.std.specs.List.{flat_map};
 ghost use Rattle.avs_world.specs.declared.world.WorldFault.TheVariants.{NoMemory};
 
 use crate::group::Group;
-use crate::ranges::sized;
+use crate::ranges::{LONGEST_WRITE, sized};
 use crate::stopped::{Stopped, StoppedWrite, filled_blocks};
 use crate::world::{World, WorldFault};
 use avs_dev::{Arm, Back, Why};
@@ -16,15 +16,16 @@ use avs_seg::Failed;
 use std::alloc::Global;
 use std::mem;
 
-const LONGEST_WRITE: u32 = 256;
+// The number of a rule between records and disks.
+const BETWEEN: u32 = 64;
 
 impl<D: Arm> World<D> {
     ghost use Rattle.avs_model.specs.State.{State};
     ghost use Rattle.avs_model.specs.Recovery.{group_line, set_lines};
-    ghost use Rattle.avs_world.specs.Views.{view_of};
+    ghost use Rattle.avs_world.specs.Views.{view_of, closed};
     ghost use Rattle.avs_world.specs.Holds.{Holds, IsPhase};
     ghost use Rattle.avs_world.specs.Causes.{FaultHasCause};
-    ghost use Rattle.avs_world.specs.Recovering.{Finds, Settles, RecoversWrite};
+    ghost use Rattle.avs_world.specs.Recovering.{Finds, Settles, RecoversWrite, KeepsStopped};
     ghost use Rattle.avs_world.specs.World.{Steps};
 
     // Finds the group on its disks.
@@ -109,12 +110,26 @@ impl<D: Arm> World<D> {
         }
     }
 
-    // Brings the host up, and tells which blocks of the write that was stopped now read as written. Where they can't be read the
-    // host stays down, with that write.
+    // The disks do not tell of the range of the write that was stopped, so one of them lost a block. The write is kept and the group
+    // taken apart, for the next recovery.
+    fn stay_down(&mut self, write: StoppedWrite) -> Answer
+        ensures told { result ≡ Answer.Refused (Refusal.BadRecord 64) }
+        ensures apart { (view_of D.seen self.new) ≡ record (view_of D.seen self.old) { group = closed (view_of D.seen self.old).group } }
+        ensures up { self.new.up ≡ self.old.up }
+        ensures stopped { self.new.stopped ≡ Some (Stopped.Write write) }
+    {
+        self.group.close();
+        self.stopped = Some(Stopped::Write(write));
+        Answer::Refused(Refusal::BadRecord(BETWEEN))
+    }
+
+    // Brings the host up, and tells which blocks of the write that was stopped now read as written. Where they can't be read, or the
+    // disks do not tell of its range, the host stays down, with that write.
     fn recover_write(&mut self, alloc: Global, write: StoppedWrite) -> Result<Answer, WorldFault>
         requires none { self.old.stopped ≡ None }
         ensures steps { IfOk result (λ answer. RecoversWrite D.seen (view_of D.seen self.old) write answer self.new) }
         ensures cause { IfOk result (FaultHasCause (view_of D.seen self.old) (view_of D.seen self.new)) }
+        ensures kept { IfOk result (KeepsStopped (Some (Stopped.Write write)) self.new.stopped) }
         ensures memory { OnErr result (result ≡ Err WorldFault.NoMemory) }
     {
         let target = match self.range_of(
@@ -124,12 +139,12 @@ impl<D: Arm> World<D> {
             LONGEST_WRITE,
         ) {
             Ok(target) => target,
-            Err(why) => return Ok(Answer::Refused(why)),
+            Err(_) => return Ok(self.stay_down(write)),
         };
         let mut bytes = sized(mem::replace(&mut self.spare, Vec::new(alloc)), write.len)?;
         match self.read_at(target, write.at, &mut bytes) {
             Ok(()) => {}
-            Err(Failed) => return Ok(self.stop(Some(Stopped::Write(write)))),
+            Err(Failed) => return Ok(self.stop(alloc, Some(Stopped::Write(write)))),
         }
         let blocks = filled_blocks(alloc, &bytes, write.len, &write.pattern)?;
         self.spare = bytes;
@@ -146,6 +161,7 @@ impl<D: Arm> World<D> {
     pub(crate) fn recover(&mut self, alloc: Global) -> Result<Answer, WorldFault>
         ensures steps { IfOk result (λ answer. (steady : Bool) → Steps D.seen steady self.old (Event.Recover Host.P) answer self.new) }
         ensures cause { IfOk result (FaultHasCause (view_of D.seen self.old) (view_of D.seen self.new)) }
+        ensures kept { IfOk result (KeepsStopped self.old.stopped self.new.stopped) }
         ensures memory { OnErr result (result ≡ Err WorldFault.NoMemory) }
     {
         if self.up {

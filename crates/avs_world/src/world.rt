@@ -70,8 +70,8 @@ impl<D: Arm> World<D> {
     ghost use Rattle.avs_model.specs.Promise.{AsksForDisk};
     ghost use Rattle.avs_world.specs.Views.{view_of, group_view};
     ghost use Rattle.avs_world.specs.Holds.{Holds};
-    ghost use Rattle.avs_world.specs.Causes.{FaultHasCause, ArmHasCause, ArmsAsDisk, target_disk};
-    ghost use Rattle.avs_world.specs.Arming.{ArmsView, ArmsVolume, ArmsTarget, is_group};
+    ghost use Rattle.avs_world.specs.Causes.{FaultHasCause, ArmsAsDisk, target_disk};
+    ghost use Rattle.avs_world.specs.Arming.{ArmsView, ArmsVolume, ArmsTarget, AnswersArm, ArmHasCause, is_group};
     ghost use Rattle.avs_world.specs.World.{Stands, Steps};
 
     pub fn new(alloc: Global) -> World<D>
@@ -209,7 +209,7 @@ impl<D: Arm> World<D> {
     fn arm(&mut self, target: &ArmTarget, tear: Tear) -> Answer
         ensures steps { (steady : Bool) → Steps D.seen steady self.old (Event.Arm Host.P target.now tear.skip tear.from tear.count) result self.new }
         ensures cause { FaultHasCause (view_of D.seen self.old) (view_of D.seen self.new) result }
-        ensures arms { ArmsAsDisk (target_disk (view_of D.seen self.old) target.now) result }
+        ensures arms { AnswersArm (view_of D.seen self.old) target.now (view_of D.seen self.new) result }
     {
         match self.arm_target(target, tear) {
             Ok(true) => Answer::Done,
@@ -234,7 +234,10 @@ impl<D: Arm> World<D> {
 
     /// Takes back the memory of an answer that was printed, for the next.
     pub fn keep(&mut self, answer: Answer)
-        ensures { (steady : Bool) (state : State) → Stands D.seen steady self.old state → Stands D.seen steady self.new state }
+        ensures stands { (steady : Bool) (state : State) → Stands D.seen steady self.old state → Stands D.seen steady self.new state }
+        ensures same { view_of D.seen self.new ≡ view_of D.seen self.old }
+        ensures up { self.new.up ≡ self.old.up }
+        ensures stopped { self.new.stopped ≡ self.old.stopped }
     {
         if let Answer::Shown(blocks) = answer {
             self.spare = blocks.into_bytes();
@@ -251,7 +254,7 @@ impl<D: Arm> World<D> {
         requires { built event.now ≡ true }
         ensures steps { IfOk result (λ answer. IsTrue (R.seen rack.old).tells → Steps D.seen (R.seen rack.old).steady self.old event.now answer self.new) }
         ensures cause { IfOk result (FaultHasCause (view_of D.seen self.old) (view_of D.seen self.new)) }
-        ensures arms { IfOk result (ArmHasCause (view_of D.seen self.old) event.now) }
+        ensures arms { IfOk result (ArmHasCause (view_of D.seen self.old) event.now (view_of D.seen self.new)) }
         ensures tells { (R.seen rack.new).tells ≡ (R.seen rack.old).tells }
         ensures steady { (R.seen rack.new).steady ≡ (R.seen rack.old).steady }
         ensures later { (R.seen rack.old).faults ≤ (R.seen rack.new).faults }
@@ -288,12 +291,8 @@ impl<D: Arm> World<D> {
                 first,
                 count,
             } => {
-                let tear = Tear {
-                    skip: *skip,
-                    from: *first,
-                    count: *count,
-                };
-                Ok(self.arm(target, tear))
+                let (skip, from, count) = (*skip, *first, *count);
+                Ok(self.arm(target, Tear { skip, from, count }))
             }
             Event::Crash { host: _ } => Ok(self.crash(alloc)),
             Event::Recover { host: _ } => self.recover(alloc),

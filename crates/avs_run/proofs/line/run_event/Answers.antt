@@ -34,7 +34,7 @@ returns-in-Ok-print_answer-clause-runs g c tells line is number =
         answer_line c.in-Ok.answer,
         c.in-Ok-print_answer.ensures.printed,
         event_done g.R.D.Disk.seen steady lines line c.args.world.now printed c.keep.new.self c.args.event.now c.in-Ok.answer so_far lt is
-            (λ s stands. let step = c.in-Ok.ensures.steps tells s stands in (step.0, step.1, c.keep.ensures steady step.0 step.2)),
+            (λ s stands. let step = c.in-Ok.ensures.steps tells s stands in (step.0, step.1, c.keep.ensures.stands steady step.0 step.2)),
       );
       ends = tt;
     }

@@ -1,6 +1,8 @@
-use Rattle.std.proofs.Common.{Some, None, refl, sym, ◌∙◌, ap}
+use Rattle.std.proofs.Common.{Some, None, map, refl, sym, ◌∙◌, ap}
+use Rattle.std.specs.Prelude.{slice_set}
 use Rattle.avs_world.specs.declared.place.Place.TheVariants.{Lent}
 use Rattle.avs_world.specs.Views.{place_view}
+use Rattle.avs_world.proofs.Holding.{set_back}
 use Rattle.avs_world.proofs.Shelves.{place_read, seen_there, disk_there, placed}
 use Rattle.avs_world.proofs.place.Shelf.lend.Goals as goal
 
@@ -32,4 +34,8 @@ returns-in-Lent-clause-none g c =
     let places = c.args.self.now.places in
     let read = place_read seen places.items c.args.place places.len c.index_mut.result.now places.ok.0 c.requires c.index_mut.ensures.value in
     let is = sym c.in-Lent.ensures.value in
-    record { none = disk_there seen places.items c.args.place Lent None (read ∙ ap Some is) refl }
+    let there = read ∙ ap Some is in
+    record {
+      none = disk_there seen places.items c.args.place Lent None there refl;
+      same = ap (map (place_view seen)) (ap (slice_set places.items c.args.place) c.replace.ensures.after ∙ set_back places.items c.args.place Lent there);
+    }

@@ -1,12 +1,21 @@
-use Rattle.std.proofs.Common.{◌≡◌, ◌∙◌, true, false, Option, sym, ap, subst}
+use Rattle.std.proofs.Common.{◌≡◌, ◌∙◌, true, false, Option, Err, rules, sym, ap, subst}
 use Rattle.avs_model.specs.declared.event.IiCommand.TheVariants.{Enable}
 use Rattle.avs_model.specs.declared.answer.Answer.{Answer}
 use Rattle.avs_ii.specs.Held.{IiDisks}
 use Rattle.avs_world.specs.Views.{StoreView, FreeDisk, SameApart, view_of, group_view, names_of, places_of, closed}
 use Rattle.avs_world.specs.Causes.{DiskRose, FaultHasCause}
+use Rattle.avs_world.specs.declared.world.WorldFault.TheVariants.{Rack}
 use Rattle.avs_world.specs.Enabling.{StartsGroup}
-use Rattle.avs_world.proofs.EnableSteps.{start_cause, lend_cause, start_stops, lend_stops, lend_done, rose_closed, stop_steps, done_steps, chosen_as, ready, store_with, lends_as}
+use Rattle.avs_world.proofs.EnableSteps.{start_cause, lend_cause, start_stops, lend_stops, lend_done, rose_closed, stop_steps, done_steps, chosen_as, ready, asks, store_with, lends_as}
 use Rattle.avs_world.proofs.world.World.enable.Goals as goal
+
+pub returns-in_err-disk-clause-asked : goal.returns-in_err-disk-clause-asked
+returns-in_err-disk-clause-asked g c refused steady state stands =
+    let is : c.from_residual-in_err-disk.result ≡ Err c.in_err-disk.field-0.0 = search rules in
+    let rack : c.in_err-disk.field-0.0 ≡ Rack = (let e = sym is ∙ refused in cc) in
+    let was : c.state_disk.result ≡ Err c.in_err-disk.field-0.0 = search rules in
+    asks g.D.Disk.seen steady c.args.self.now state _ _ _ c.args.master.now c.args.shadow.now c.args.bitmap.now stands c.if-not-self.false c.as_slice.ensures c.as_slice-2.ensures c.as_slice-3.ensures
+    c.in-Ok.ensures.passes c.in-Ok.ensures.chosen.free (c.state_disk.ensures.needed (was ∙ ap Err rack))
 
 pub returns-in_default-clause-steps : goal.returns-in_default-clause-steps
 returns-in_default-clause-steps g c tells state stands =

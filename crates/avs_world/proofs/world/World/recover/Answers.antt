@@ -13,15 +13,15 @@ use Rattle.avs_world.specs.Views.{view_of}
 use Rattle.avs_world.specs.Holds.{IsPhase}
 use Rattle.avs_world.specs.World.{Stands, Steps, Keeps, IsThere}
 use Rattle.avs_world.specs.Recovering.{Finds, RecoversWrite}
-use Rattle.avs_world.proofs.Recovering.{brought, second_clean, second_command, enabled, lost_stands}
+use Rattle.avs_world.proofs.Recovering.{brought, second_clean, second_command, enabled, unfound_stands}
 use Rattle.avs_world.proofs.world.World.recover.Goals as goal
 
 pub returns-in-Err-Fault-clause-steps : goal.returns-in-Err-Fault-clause-steps
 returns-in-Err-Fault-clause-steps g c steady s stands =
     let seen = g.D.Disk.seen in
     let fault : c.open.result ≡ Err Fault = c.in-Err-Fault.is ∙ ap (λ (w : Why). Err w) c.in-Err-Fault.field-0-is in
-    let lost = subst (λ (r : Result (Unit {0}) Why). Finds (view_of seen c.args.self.now) r (view_of seen c.open.new.self)) fault c.open.ensures.finds in
-    lost_stands seen steady c.args.self.now c.open.new.self s stands c.if-self.false c.open.ensures.up c.open.ensures.stopped lost
+    let fails = subst (λ (r : Result (Unit {0}) Why). Finds (view_of seen c.args.self.now) r (view_of seen c.open.new.self)) fault c.open.ensures.finds in
+    unfound_stands seen steady c.args.self.now c.open.new.self s stands c.if-self.false c.open.ensures.up c.open.ensures.stopped fails
 
 pub returns-in-None-clause-steps : goal.returns-in-None-clause-steps
 returns-in-None-clause-steps g c =

@@ -10,14 +10,14 @@ use Rattle.avs_world.specs.Views.{view_of}
 use Rattle.avs_world.specs.Calls.{IsOf}
 use Rattle.avs_world.specs.Recovering.{IsWaiting}
 use Rattle.avs_world.proofs.TornLemmas.{filled-standing}
-use Rattle.avs_world.proofs.Recovering.{brought, second_write, write_lost, rose_apart}
+use Rattle.avs_world.proofs.Recovering.{brought, second_write, write_unread, rose_apart}
 use Rattle.avs_world.proofs.world.World.recover_write.Goals as goal
 
 pub returns-in-Err-clause-steps : goal.returns-in-Err-clause-steps
 returns-in-Err-clause-steps g c steady s waiting =
     let refused = c.in-Err.ensures.refused steady waiting.left waiting.holds waiting.phase in
     let name : c.as_slice.result.now ≡ c.args.write.volume = c.as_slice.ensures in
-    let e : None ≡ Some c.in-Err.why = sym waiting.there ∙ ap (λ n. first_cause (place_causes waiting.left P n c.args.write.at c.args.write.len longest_write)) (sym name) ∙ refused in
+    let e : None ≡ Some c.in-Err.field-0 = sym waiting.there ∙ ap (λ n. first_cause (place_causes waiting.left P n c.args.write.at c.args.write.len longest_write)) (sym name) ∙ refused in
     absurd (cc)
 
 pub returns-in-Err-read_at-clause-steps : goal.returns-in-Err-read_at-clause-steps
@@ -25,7 +25,7 @@ returns-in-Err-read_at-clause-steps g c steady s waiting =
     let seen = g.D.Disk.seen in
     let stop = c.stop.ensures in
     let reads = c.in-Err-read_at.ensures.reads in
-    write_lost seen steady (view_of seen c.args.self.now) (view_of seen c.read_at.new.self) c.stop.new.self s c.args.write c.stop.result waiting (reads.holds steady waiting.left waiting.holds) (reads.phase true waiting.phase)
+    write_unread seen steady (view_of seen c.args.self.now) (view_of seen c.read_at.new.self) c.stop.new.self s c.args.write c.stop.result waiting (reads.holds steady waiting.left waiting.holds) (reads.phase true waiting.phase)
     (reads.sure steady waiting.left waiting.holds) stop.same stop.apart stop.up stop.stopped stop.told
 
 pub returns-in-Err-read_at-clause-cause : goal.returns-in-Err-read_at-clause-cause
