@@ -10,3 +10,5 @@ pub mod Exits
 pub mod Cuts
 pub mod Touch
 pub mod Differ
+pub mod StagedLaws
+pub mod PairLaws

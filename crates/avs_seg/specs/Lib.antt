@@ -2,3 +2,4 @@ pub mod Image
 pub mod Segment
 pub mod Causes
 pub mod Lines
+pub mod Staged
