@@ -23,6 +23,11 @@ pub record IsPut (old new : ℕ → Bool) (first end : ℕ) (on : Bool) : Type 0
   pub inside : (p : ℕ) → first ≤ p → p < end → new p ≡ on
   pub outside : (p : ℕ) → (p < first) ⊎ (end ≤ p) → new p ≡ old p
 
+-- of these bits some are as `on` says, and the others are as before
+pub record IsPart (keys : ℕ → Bool) (on : Bool) (old new : ℕ → Bool) : Type 0 where
+  pub inside : (p : ℕ) → keys p ≡ true → (new p ≡ old p) ⊎ (new p ≡ on)
+  pub outside : (p : ℕ) → keys p ≡ false → new p ≡ old p
+
 -- the bits of a disk behind its first block are these, as far as bit n
 pub record IsHeld (img : Image) (n : ℕ) (bits : ℕ → Bool) : Type 0 where
   pub each : (p : ℕ) → 4096 ≤ p → p < n → disk_bit img p ≡ bits p

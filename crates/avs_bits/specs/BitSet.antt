@@ -1,15 +1,16 @@
 -- A set of segments: what its disk holds, and what each call makes of it.
 use Rattle.std.specs.Prelude.{◌≡◌, ◌⊎◌, ℕ, ◌+◌, ◌-◌, ◌*◌, ◌/◌, ◌<◌, ◌≤◌, min, ◌==◌, ◌&&◌, nat_lt, Bool, true, false, not, IsTrue, List, length, ◌^◌, if◌then◌else◌, Option, Some, None, Result, OnOk, OnErr, IsOk}
-use Rattle.avs_seg.specs.Image.{Image, block_at, blocks_of, IsMix, ChangesWithin}
+use Rattle.avs_seg.specs.Image.{Image, block_at, blocks_of, IsMix, ChangesWithin, is_inside}
 use Rattle.avs_seg.specs.Segment.{seg_count}
 use Rattle.avs_seg.specs.Causes.{HasCause, Rose}
-use Rattle.avs_dev.specs.Seen.{Seen, IsTold, UsesTear}
+use Rattle.avs_dev.specs.Seen.{Seen, IsTold, UsesTear, GoesOn, with_tear}
+use Rattle.avs_dev.specs.declared.disk.Tear.{Tear}
 use Rattle.avs_dev.specs.declared.back.Why.{Why}
 use Rattle.avs_dev.specs.declared.back.Why.TheVariants.{Size, BadRecord, NoMemory, Fault}
 use Rattle.avs_code.specs.Label.{IsLabel, IsBadLabel, label_for}
 use Rattle.avs_code.specs.declared.labels.Label.{Label}
 use Rattle.avs_code.specs.declared.labels.LabelUse.{LabelUse}
-use Rattle.avs_bits.specs.Bit.{bit_of, disk_bit, IsPut, is_due, due_below, due_count, raised}
+use Rattle.avs_bits.specs.Bit.{bit_of, disk_bit, IsPut, is_due, due_below, due_count, raised, IsPart}
 
 -- the bits of segments lie behind the block of the label
 abbrev pub place : ℕ → ℕ
@@ -54,6 +55,18 @@ pub record StopsIn (old : BitSet) (first end : ℕ) (on : Bool) (new : BitSet) :
   pub written : new.disk.written ≡ raised old.disk.written (due_below (set_of old) first end on block)
   pub disk : IsTold old.disk → IsInStep old → IsChangedOnDisk (set_of old) first (min (4096 * block) end) on new.disk.image old.segs ⊎ IsInStep new
 
+-- a disk holds a set of which some of these segments are as `on` says, and the others as before
+pub record HoldsPart (keys : ℕ → Bool) (on : Bool) (old : ℕ → Bool) (img : Image) (segs : ℕ) : Type 0 where
+  pub set : ℕ → Bool
+  pub part : IsPart keys on old set
+  pub held : IsOnDisk img segs set
+
+-- Done or stopped, of the segments from `first` up to `end` some are as `on` says, and the others are as before: in memory,
+-- and on a disk that was in step.
+pub record LeavesPart (old : BitSet) (first end : ℕ) (on : Bool) (new : BitSet) : Type 0 where
+  pub memory : IsPart (is_inside first (end - first)) on (set_of old) (set_of new)
+  pub disk : IsTold old.disk → IsInStep old → HoldsPart (is_inside first (end - first)) on (set_of old) new.disk.image old.segs
+
 -- nothing was done, and the answer is Ok
 pub record IsIdle {T E : Type 0} (old : BitSet) (result : Result T E) (new : BitSet) : Type 0 where
   pub answer : IsOk result
@@ -84,6 +97,8 @@ pub record Changes {T E : Type 0} (old : BitSet) (first end : ℕ) (on : Bool) (
   pub stopped : OnErr result (StopsIn old first end on new)
   pub spent : IsTrue old.disk.steady → OnErr result (UsesTear old.disk new.disk)
   pub idle : ((s : ℕ) → first ≤ s → s < end → set_of old s ≡ on) → IsIdle old result new
+  pub goes : GoesOn old.disk result new.disk
+  pub part : LeavesPart old first end on new
 
 -- a disk that is too small is refused before anything is done
 pub record IsSmall (old : Seen) (segs need have : ℕ) (new : Seen) : Type 0 where
@@ -150,6 +165,7 @@ pub record IsMislabelled (old : Seen) (import : Bool) (blocks field : ℕ) (new 
   pub later : old.faults ≤ new.faults
   pub bad : IsTold old → IsBadLabel (block_at old.image 0) (bitmap_use import blocks) field
   pub none : IsTold old → (stamp : ℕ) → IsLabel (block_at old.image 0) (bitmap_label import blocks stamp) → ⊥
+  pub kept : new ≡ old
 
 -- the label and the bits were not all read
 pub record IsUnread (old : Seen) (segs : ℕ) (new : Seen) : Type 0 where
@@ -165,10 +181,11 @@ LoadRefused old import blocks (BadRecord field) new = IsMislabelled old import b
 LoadRefused old import blocks NoMemory new = IsUnmade old (seg_count blocks) new
 LoadRefused old import blocks Fault new = IsUnread old (seg_count blocks) new
 
--- a tear is armed exactly on the disk with number 0, and where it lets one be armed; where none is, nothing changes
-pub record ArmsDisk (old : BitSet) (disk : ℕ) (result : Bool) (new : BitSet) : Type 0 where
+-- exactly this tear is armed, exactly on the disk with number 0, and where it lets one be armed; where none is, nothing
+-- changes
+pub record ArmsDisk (old : BitSet) (disk : ℕ) (tear : Tear) (result : Bool) (new : BitSet) : Type 0 where
   pub answer : result ≡ ((disk == 0) && old.disk.arms)
-  pub armed : IsTrue result → new ≡ record old { disk = record old.disk { armed = true } }
+  pub armed : IsTrue result → new ≡ record old { disk = with_tear tear old.disk }
   pub unarmed : IsTrue (not result) → new ≡ old
   pub sure : disk ≡ 0 → IsTrue old.disk.steady → IsTrue result
 

@@ -59,6 +59,7 @@ impl<D: Disk> Bits<D> {
         ensures size { IfOk result (λ b. b.disk.size ≡ (D.seen disk).size) }
         ensures steady { IfOk result (λ b. b.disk.steady ≡ (D.seen disk).steady) }
         ensures still_armed { IfOk result (λ b. b.disk.armed ≡ (D.seen disk).armed) }
+        ensures same { IfOk result (λ b. b.disk.faults ≡ (D.seen disk).faults) }
         ensures later { IfOk result (λ b. (D.seen disk).faults ≤ b.disk.faults) }
         ensures written { IfOk result (λ b. b.disk.written ≡ counted (D.seen disk).written (blocks_for b.segs)) }
         ensures told { IfOk result (λ b. IsTold (D.seen disk) → IsTold b.disk) }
@@ -98,6 +99,7 @@ impl<D: Disk> Bits<D> {
     pub fn load(alloc: Global, mut disk: D, blocks: u32, import: bool) -> Result<Bits<D>, Closed<D>>
         ensures fits { IfOk result (λ b. blocks_for b.segs ≤ b.disk.size) }
         ensures segs { IfOk result (λ b. b.segs ≡ seg_count blocks) }
+        ensures same { IfOk result (λ b. b.disk ≡ D.seen disk) }
         ensures kept { IfOk result (λ b. b.disk ≡ record (D.seen disk) { faults = b.disk.faults }) }
         ensures later { IfOk result (λ b. (D.seen disk).faults ≤ b.disk.faults) }
         ensures label { IfOk result (λ b. IsTold (D.seen disk)
@@ -218,7 +220,7 @@ impl<D: Disk> Bits<D> {
     pub fn arm(&mut self, disk: u32, tear: Tear) -> bool
     where
         D: Arm,
-        ensures { ArmsDisk self.old disk result self.new }
+        ensures { ArmsDisk self.old disk tear result self.new }
     {
         disk == 0 && self.disk.arm(tear)
     }
@@ -244,8 +246,10 @@ fn read_bytes<D: Disk>(
 ) -> Result<(Vec<u8>, u64), Why>
     ensures rest { D.seen disk.new ≡ record (D.seen disk.old) { faults = (D.seen disk.new).faults } }
     ensures later { (D.seen disk.old).faults ≤ (D.seen disk.new).faults }
+    ensures same { IfOk result (λ _. D.seen disk.new ≡ D.seen disk.old) }
     ensures kept { IfOk result (λ p. IsKept p.0.items (seg_count blocks) (D.seen disk.old).size) }
-    ensures held { IfOk result (λ p. IsTold (D.seen disk.old) → IsHeld (D.seen disk.old).image (place (seg_count blocks)) (bit_of p.0.items)) }
+    ensures held { IfOk result (λ p. IsTold (D.seen disk.old)
+        → IsHeld (D.seen disk.old).image (place (seg_count blocks)) (bit_of p.0.items)) }
     ensures label { IfOk result (λ p. IsTold (D.seen disk.old)
         → IsLabel (block_at (D.seen disk.old).image 0) (bitmap_label import blocks p.1)) }
     ensures refused { IfErr result (λ why. LoadRefused (D.seen disk.old) import blocks why (D.seen disk.new)) }

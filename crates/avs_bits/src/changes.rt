@@ -2,7 +2,7 @@
 ghost use Rattle.std.specs.Prelude.{◌≡◌, ◌⊎◌, ◌+◌, ◌-◌, ◌*◌, ◌/◌, ◌<◌, ◌≤◌, ◌^◌, ℕ, true, false, if◌then◌else◌, IsTrue, OnOk, OnErr, length};
 ghost use Rattle.avs_seg.specs.Image.{block_at, ChangesWithin};
 ghost use Rattle.avs_seg.specs.Causes.{HasCause};
-ghost use Rattle.avs_dev.specs.Seen.{IsTold, UsesTear};
+ghost use Rattle.avs_dev.specs.Seen.{IsTold, UsesTear, GoesOn};
 ghost use Rattle.avs_bits.specs.Bit.{bit_of, has_other, is_due, due_count, raised, IsPut, IsHeld, IsIdleChange, StopsAt};
 
 use crate::bit_bytes::put_bits;
@@ -31,6 +31,7 @@ fn change_block<D: Disk>(
     ensures steady { (D.seen disk.new).steady ≡ (D.seen disk.old).steady }
     ensures told { IsTold (D.seen disk.old) → IsTold (D.seen disk.new) }
     ensures cause { HasCause (D.seen disk.old).faults (D.seen disk.new).faults result }
+    ensures goes { GoesOn (D.seen disk.old) result (D.seen disk.new) }
     ensures within { IsTold (D.seen disk.old) → ChangesWithin block 1 (D.seen disk.old).image (D.seen disk.new).image }
     ensures put { IsPut (bit_of bytes.old.items) (bit_of bytes.new.items) from to on }
     ensures written { OnOk result ((D.seen disk.new).written
@@ -72,6 +73,7 @@ pub(crate) fn change<D: Disk>(
     ensures steady { (D.seen disk.new).steady ≡ (D.seen disk.old).steady }
     ensures told { IsTold (D.seen disk.old) → IsTold (D.seen disk.new) }
     ensures cause { HasCause (D.seen disk.old).faults (D.seen disk.new).faults result }
+    ensures goes { GoesOn (D.seen disk.old) result (D.seen disk.new) }
     ensures within { IsTold (D.seen disk.old)
         → ChangesWithin (from / 4096) ((to + 4095) / 4096 - from / 4096) (D.seen disk.old).image (D.seen disk.new).image }
     ensures still { IsTold (D.seen disk.old) → (k : ℕ) → is_due (bit_of bytes.old.items) from to on k ≡ false
@@ -83,9 +85,11 @@ pub(crate) fn change<D: Disk>(
     ensures still_armed { OnOk result ((D.seen disk.new).armed ≡ (D.seen disk.old).armed) }
     ensures done { IsTold (D.seen disk.old) → (n : ℕ) → IsHeld (D.seen disk.old).image n (bit_of bytes.old.items)
         → OnOk result (IsHeld (D.seen disk.new).image n (bit_of bytes.new.items)) }
-    ensures stopped { OnErr result (StopsAt (bit_of bytes.old.items) (bit_of bytes.new.items) from to on (D.seen disk.old) (D.seen disk.new)) }
+    ensures stopped { OnErr result (StopsAt (bit_of bytes.old.items) (bit_of bytes.new.items) from to on
+        (D.seen disk.old) (D.seen disk.new)) }
     ensures spent { IsTrue (D.seen disk.old).steady → OnErr result (UsesTear (D.seen disk.old) (D.seen disk.new)) }
-    ensures idle { ((p : ℕ) → from ≤ p → p < to → bit_of bytes.old.items p ≡ on) → IsIdleChange (D.seen disk.old) bytes.old.items result (D.seen disk.new) bytes.new.items }
+    ensures idle { ((p : ℕ) → from ≤ p → p < to → bit_of bytes.old.items p ≡ on)
+        → IsIdleChange (D.seen disk.old) bytes.old.items result (D.seen disk.new) bytes.new.items }
 {
     for block in from / BLOCK_BITS..to.div_ceil(BLOCK_BITS) {
         let low = from.max(BLOCK_BITS * block);

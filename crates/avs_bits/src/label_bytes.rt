@@ -3,7 +3,7 @@ ghost use Rattle.std.specs.Prelude.{◌≡◌, ◌+◌, ◌*◌, ◌/◌, ◌<�
 ghost use Rattle.avs_seg.specs.Segment.{seg_count};
 ghost use Rattle.avs_seg.specs.Image.{block_at, blocks_of};
 ghost use Rattle.avs_seg.specs.Causes.{HasCause};
-ghost use Rattle.avs_dev.specs.Seen.{IsTold, IsRange};
+ghost use Rattle.avs_dev.specs.Seen.{IsTold, IsRange, GoesOn};
 ghost use Rattle.avs_bits.specs.Bit.{bit_of, IsHeld};
 ghost use Rattle.avs_code.specs.Label.{IsLabel, IsBadLabel, LabelKeeps, label_block};
 ghost use Rattle.avs_bits.specs.BitSet.{blocks_for, bitmap_use, bitmap_label, NoRoom};
@@ -92,6 +92,7 @@ pub(crate) fn read_first<D: Disk>(disk: &mut D, bytes: &mut [u8]) -> Result<(), 
     requires range { IsRange (D.seen disk.old) 0 (length bytes.old) }
     ensures rest { D.seen disk.new ≡ record (D.seen disk.old) { faults = (D.seen disk.new).faults } }
     ensures cause { HasCause (D.seen disk.old).faults (D.seen disk.new).faults result }
+    ensures goes { GoesOn (D.seen disk.old) result (D.seen disk.new) }
     ensures sure { IsTrue (D.seen disk.old).steady → IsOk result }
     ensures len { length bytes.new ≡ length bytes.old }
     ensures label { IsTold (D.seen disk.old) → OnOk result (block_at (D.seen disk.old).image 0 ≡ take 512 bytes.new) }

@@ -5,8 +5,7 @@ mod bit_bytes;
 mod bits;
 mod changes;
 mod label_bytes;
+mod laws;
 
 pub use bits::Bits;
-
-#[cfg(test)]
-mod tests;
+pub use laws::parts_follow_parts;

@@ -12,6 +12,7 @@ use Rattle.avs_seg.proofs.Ranges.{range_one}
 use Rattle.avs_dev.specs.Seen.{Seen, IsTold, IsRange, Reads, Writes}
 use Rattle.avs_dev.specs.Below.{BelowSeen, image_of, size_of, IsToldAt, IsNoteTold, IsRangeOf, ReadsBelow, WritesBelow, SetsNote}
 use Rattle.avs_dev.specs.Bare.{BareDisks, disks_of, volume_at, note_in, note_block, stored_on, below_of, written_on, AddsBlocks, ReadsVolume, WritesVolume, WritesNote, Opens}
+use Rattle.avs_dev.proofs.Going.{goes_err, writes_err}
 use Rattle.avs_dev.proofs.SomeDisks.{HasOneCause_at, UsesOneTear_at, steady_same, steady_at}
 
 -- ---- a volume
@@ -72,8 +73,8 @@ module _ (b : BareDisks) (vol : ℕ) (new : Seen) (there : vol < length b.volume
 
 module _ {T E : Type 0} (b : BareDisks) (vol at : ℕ) (bytes : List ℕ) (result : Result T E) (new : Seen) (there : vol < length b.volumes) where
   -- a read
-  pub Reads-below : Reads (volume_at b vol) at bytes result new → ReadsBelow (below_of b) vol at bytes result (below_of (record b { volumes = slice_set b.volumes vol new }))
-  Reads-below r =
+  pub Reads-below : {S : Type 0} → Reads (volume_at b vol) at bytes result new → ReadsBelow S (below_of b) vol at bytes result (below_of (record b { volumes = slice_set b.volumes vol new }))
+  Reads-below {S} r =
       let images = image_same b vol new there (ap (λ (d : Seen). d.image) r.rest) in
       let sizes = size_same b vol new there (ap (λ (d : Seen). d.size) r.rest) in
       let armed = armed_same b vol new there (ap (λ (d : Seen). d.armed) r.rest) in
@@ -87,9 +88,9 @@ module _ {T E : Type 0} (b : BareDisks) (vol at : ℕ) (bytes : List ℕ) (resul
             ∙ ap (λ (x : Bool). record s { images = o.images; sizes = o.sizes; armed = o.armed; steady = x }) steady;
         images = images;
         sizes = sizes;
-        cause = HasOneCause_at (disks_of b) (suc vol) new b.state (suc_there b vol new there) result r.cause;
+        cause = HasOneCause_at (disks_of b) (suc vol) new b.state (suc_there b vol new there) result r.cause r.goes;
         told = λ any told. ap (λ (l : List Image). length (slice_index_or l any [])) images ∙ told ∙ sym (ap (λ (l : List ℕ). slice_index l any) sizes);
-        shows = λ told. on_ok_weaker result (λ is. is ∙ ap (λ (i : Image). range i at (length bytes / 512)) (sym (image_is b vol there))) (r.shows (told_is b vol there told));
+        shows = λ sound told. on_ok_weaker result (λ is. is ∙ ap (λ (i : Image). range i at (length bytes / 512)) (sym (image_is b vol there))) (r.shows (told_is b vol there told));
         sure = λ all. r.sure (steady_at (disks_of b) (suc vol) new b.state (suc_there b vol new there) all);
       }
 
@@ -102,8 +103,8 @@ module _ {T E : Type 0} (b : BareDisks) (vol at : ℕ) (bytes : List ℕ) (resul
       }
 
   -- a write
-  pub Writes-below : Writes (volume_at b vol) at bytes result new → WritesBelow (below_of b) vol at bytes result (below_of (record b { volumes = slice_set b.volumes vol new }))
-  Writes-below w =
+  pub Writes-below : {S : Type 0} → Writes (volume_at b vol) at bytes result new → WritesBelow S (below_of b) vol at bytes result (below_of (record b { volumes = slice_set b.volumes vol new }))
+  Writes-below {S} w =
       let was = image_is b vol there in
       let now = image_after b vol new there in
       let sizes = size_same b vol new there w.size in
@@ -115,10 +116,10 @@ module _ {T E : Type 0} (b : BareDisks) (vol at : ℕ) (bytes : List ℕ) (resul
         note = refl;
         stored = refl;
         steady = steady_same (disks_of b) (suc vol) new b.state (suc_there b vol new there) w.steady;
-        cause = HasOneCause_at (disks_of b) (suc vol) new b.state (suc_there b vol new there) result w.cause;
-        done = λ told. on_ok_weaker result (λ is. now ∙ is ∙ ap (λ (i : Image). put i at bs) (sym was)) (w.done (told_is b vol there told));
-        failed = λ told. on_err_weaker result (λ mixed. subst (λ (i : Image). IsMix i at bs (image_of s vol)) (sym was) (subst (λ (i : Image). IsMix (volume_at b vol).image at bs i) (sym now) mixed)) (w.failed (told_is b vol there told));
-        within = λ told.
+        cause = HasOneCause_at (disks_of b) (suc vol) new b.state (suc_there b vol new there) result w.cause w.goes;
+        done = λ sound told. on_ok_weaker result (λ is. now ∙ is ∙ ap (λ (i : Image). put i at bs) (sym was)) (w.done (told_is b vol there told));
+        failed = λ sound told. on_err_weaker result (λ mixed. subst (λ (i : Image). IsMix i at bs (image_of s vol)) (sym was) (subst (λ (i : Image). IsMix (volume_at b vol).image at bs i) (sym now) mixed)) (w.failed (told_is b vol there told));
+        within = λ sound told.
             subst (λ (i : Image). ChangesWithin at (length bytes / 512) i (image_of s vol)) (sym was)
             (subst (λ (i : Image). ChangesWithin at (length bytes / 512) (volume_at b vol).image i) (sym now) (w.within (told_is b vol there told)));
         told = told_after w sizes;
@@ -187,6 +188,7 @@ module _ {T E : Type 0} (old : Seen) (out : List ℕ) (x : T) (new : Seen) (len 
 
   pub Opens-read : (volumes : List Seen) → 1 < old.size → volumes ≡ [] → Opens old (record { state = new; volumes = volumes; note = note_in out })
   Opens-read volumes fits none = record {
+    kept = r.rest ∙ ap (λ (n : ℕ). record old { faults = n }) r.goes.done.faults;
     rest = r.rest;
     none = none;
     note = note_read;
@@ -218,6 +220,12 @@ module _ (b : BareDisks) (note : List ℕ) (new : Seen) (fits : 1 < b.state.size
       let told = told_stored b.state some in
       stored_new (w.told told) (w.done told ∙ ap (λ (i : Image). put b.state.image 1 i) one) told
 
+  -- the note in memory is that on the disk
+  pub in_step_after : {T E : Type 0} (x : T) → Writes {E = E} b.state 1 (note_block note) (Ok x) new → IsTrue (is_some (stored_on new)) → stored_on new ≡ Some note
+  in_step_after x w some =
+      let told = w.tells (told_stored new some) in
+      stored_after x w (ap (λ (o : Option (List ℕ)). is_some o) (stored_told b.state told))
+
   pub stored_left : {T E : Type 0} (e : E) → Writes {T = T} b.state 1 (note_block note) (Err e) new → IsNoteTold (below_of b) → (stored_on new ≡ stored_on b.state) ⊎ (stored_on new ≡ Some note)
   stored_left e w some =
       let told = told_stored b.state some in
@@ -232,14 +240,14 @@ module _ (b : BareDisks) (note : List ℕ) (new : Seen) (fits : 1 < b.state.size
   still_told : {T E : Type 0} (result : Result T E) → Writes b.state 1 (note_block note) result new → IsNoteTold (below_of b) → IsTrue (is_some (stored_on new))
   still_told result w some = ap (λ (o : Option (List ℕ)). is_some o) (stored_told new (w.told (told_stored b.state some)))
 
-  pub Writes-noted : {T E : Type 0} (x : T) → Writes {E = E} b.state 1 (note_block note) (Ok x) new → SetsNote {E = E} (below_of b) note (Ok x) (below_of (record b { state = new; note = note }))
-  Writes-noted {T} {E} x w =
+  pub Writes-noted : {S T E : Type 0} (x : T) → Writes {E = E} b.state 1 (note_block note) (Ok x) new → SetsNote {E = E} S (below_of b) note (Ok x) (below_of (record b { state = new; note = note }))
+  Writes-noted {S} {T} {E} x w =
       let r : Result T E = Ok x in
       record {
-        images = refl;
+        images = λ sound. refl;
         sizes = refl;
         steady = steady_same (disks_of b) 0 new b.state first w.steady;
-        cause = HasOneCause_at (disks_of b) 0 new b.state first r w.cause;
+        cause = HasOneCause_at (disks_of b) 0 new b.state first r w.cause w.goes;
         done = refl;
         failed = tt;
         stored = stored_after x w;
@@ -252,16 +260,16 @@ module _ (b : BareDisks) (note : List ℕ) (new : Seen) (fits : 1 < b.state.size
   never : false ≡ true → ⊥
   never is = cc
 
-  pub Writes-not_noted : {T E T' E' : Type 0} (e : E) (r : Result T' E') → IsErr r → Writes {T = T} b.state 1 (note_block note) (Err e) new → SetsNote (below_of b) note r (below_of (record b { state = new }))
+  pub Writes-not_noted : {S T E T' E' : Type 0} (e : E) (r : Result T' E') → IsErr r → Writes {T = T} b.state 1 (note_block note) (Err e) new → SetsNote S (below_of b) note r (below_of (record b { state = new }))
   Writes-not_noted e (Ok x) failed w = absurd (never failed)
-  Writes-not_noted {T} {E} {T'} {E'} e (Err e') failed w =
+  Writes-not_noted {S} {T} {E} {T'} {E'} e (Err e') failed w =
       let r : Result T' E' = Err e' in
       let r' : Result T E = Err e in
       record {
-        images = refl;
+        images = λ sound. refl;
         sizes = refl;
         steady = steady_same (disks_of b) 0 new b.state first w.steady;
-        cause = HasOneCause_at (disks_of b) 0 new b.state first r (record { later = w.cause.later; failed = w.cause.failed });
+        cause = HasOneCause_at (disks_of b) 0 new b.state first r (record { later = w.cause.later; failed = w.cause.failed }) (goes_err b.state new e e' w.goes);
         done = tt;
         failed = inl refl;
         stored = λ some. tt;
@@ -279,18 +287,5 @@ module _ (b : BareDisks) (note : List ℕ) (new : Seen) (fits : 1 < b.state.size
   Writes-no_note e (Ok x) failed w = absurd (never failed)
   Writes-no_note e (Err e') failed w = record {
     rest = refl;
-    writes = record {
-      size = w.size;
-      steady = w.steady;
-      cause = record { later = w.cause.later; failed = w.cause.failed };
-      done = λ told. tt;
-      failed = w.failed;
-      within = w.within;
-      told = w.told;
-      tells = w.tells;
-      counted = tt;
-      uncounted = w.uncounted;
-      still_armed = tt;
-      spent = w.spent;
-    };
+    writes = writes_err b.state new 1 (note_block note) e e' w;
   }

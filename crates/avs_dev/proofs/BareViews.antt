@@ -2,7 +2,8 @@
 use Rattle.std.proofs.Common.{◌≡◌, ◌<◌, ℕ, suc, Bool, true, not, IsTrue, Some, List, length, map, set, get_or, slice_index_or, slice_set, Result, is_ok, refl, sym, ◌∙◌, ap, subst, arith}
 use Rattle.std.proofs.lemmas.List.{get_or-map, map-set, set-get_or, length-map}
 use Rattle.std.proofs.lemmas.Option.{slice_get-get_or}
-use Rattle.avs_dev.specs.Seen.{Seen, IsRange, Reads, Writes, Arms}
+use Rattle.avs_dev.specs.Seen.{Seen, IsRange, Reads, Writes, Arms, with_tear}
+use Rattle.avs_dev.specs.declared.disk.Tear.{Tear}
 use Rattle.avs_dev.specs.Below.{IsRangeOf, ReadsBelow, WritesBelow, size_of}
 use Rattle.avs_dev.specs.Bare.{BareDisks, disks_of, volume_at, below_of, written_on, AddsBlocks, ReadsVolume, WritesVolume, ArmsBare, written_of}
 use Rattle.avs_dev.proofs.BareCalls.{is_range, size_is, written_same, Reads-below, Reads-volume, Writes-below, Writes-volume, Writes-adds}
@@ -40,8 +41,8 @@ module _ {A : Type 0} (seen : A → Seen) (state : A) (volumes : List A) (note :
       reads_was : Reads (seen was) at bytes result (seen new) → Reads (volume_at b vol) at bytes result (seen new)
       reads_was r = subst (λ (d : Seen). Reads d at bytes result (seen new)) was_is r
 
-      pub reads_below : Reads (seen was) at bytes result (seen new) → ReadsBelow (below_of b) vol at bytes result (below_of (seen_as seen state (set volumes vol new) note))
-      reads_below r = subst (λ (x : BareDisks). ReadsBelow (below_of b) vol at bytes result (below_of x)) after_is (Reads-below b vol at bytes result (seen new) inside (reads_was r))
+      pub reads_below : {S : Type 0} → Reads (seen was) at bytes result (seen new) → ReadsBelow S (below_of b) vol at bytes result (below_of (seen_as seen state (set volumes vol new) note))
+      reads_below {S} r = subst (λ (x : BareDisks). ReadsBelow S (below_of b) vol at bytes result (below_of x)) after_is (Reads-below b vol at bytes result (seen new) inside (reads_was r))
 
       pub reads_rest : Reads (seen was) at bytes result (seen new) → written_on (seen_as seen state (set volumes vol new) note) ≡ written_on b
       reads_rest r = subst (λ (x : BareDisks). written_on x ≡ written_on b) after_is (written_same b vol (seen new) inside (ap (λ (d : Seen). d.written) (reads_was r).rest))
@@ -52,8 +53,8 @@ module _ {A : Type 0} (seen : A → Seen) (state : A) (volumes : List A) (note :
       writes_was : Writes (seen was) at bytes result (seen new) → Writes (volume_at b vol) at bytes result (seen new)
       writes_was w = subst (λ (d : Seen). Writes d at bytes result (seen new)) was_is w
 
-      pub writes_below : Writes (seen was) at bytes result (seen new) → WritesBelow (below_of b) vol at bytes result (below_of (seen_as seen state (set volumes vol new) note))
-      writes_below w = subst (λ (x : BareDisks). WritesBelow (below_of b) vol at bytes result (below_of x)) after_is (Writes-below b vol at bytes result (seen new) inside (writes_was w))
+      pub writes_below : {S : Type 0} → Writes (seen was) at bytes result (seen new) → WritesBelow S (below_of b) vol at bytes result (below_of (seen_as seen state (set volumes vol new) note))
+      writes_below {S} w = subst (λ (x : BareDisks). WritesBelow S (below_of b) vol at bytes result (below_of x)) after_is (Writes-below b vol at bytes result (seen new) inside (writes_was w))
 
       pub writes_rest : Writes (seen was) at bytes result (seen new) → AddsBlocks (written_on b) vol at bytes (is_ok result) (written_on (seen_as seen state (set volumes vol new) note))
       writes_rest w = subst (λ (x : BareDisks). AddsBlocks (written_on b) vol at bytes (is_ok result) (written_on x)) after_is (Writes-adds b vol at bytes result (seen new) inside (writes_was w))
@@ -80,16 +81,16 @@ module _ {A : Type 0} (seen : A → Seen) (state : A) (volumes : List A) (note :
       let same : n ≡ get_or written place 0 = is ∙ ap (λ (d : Seen). d.written) is_seen ∙ sym (get_or-map (λ (d : Seen). d.written) b.volumes place b.state 0 inside_seen) in
       ap (λ (k : ℕ). Some k) same ∙ sym (slice_get-get_or written place 0 lt') ∙ ap (λ (k : ℕ). written_of b k) (sym at)
 
-  module _ (new : A) (result : Bool) (arms : Arms (seen was) result (seen new)) (sure : IsTrue (seen was).steady → IsTrue result) where
-    armed_is : IsTrue result → seen new ≡ record (volume_at b place) { armed = true }
-    armed_is so = arms.armed so ∙ ap (λ (d : Seen). record d { armed = true }) is_seen
+  module _ (new : A) (tear : Tear) (result : Bool) (arms : Arms (seen was) tear result (seen new)) (sure : IsTrue (seen was).steady → IsTrue result) where
+    armed_is : IsTrue result → seen new ≡ with_tear tear (volume_at b place)
+    armed_is so = arms.armed so ∙ ap (λ (d : Seen). with_tear tear d) is_seen
 
     unarmed_is : IsTrue (not result) → record b { volumes = slice_set b.volumes place (seen new) } ≡ b
     unarmed_is not_so =
         ap (λ (d : Seen). record b { volumes = slice_set b.volumes place d }) (arms.unarmed not_so ∙ is_seen)
         ∙ ap (λ (l : List Seen). record b { volumes = l }) (set-get_or b.volumes place b.state)
 
-    arms_place : ArmsBare b (suc place) result (record b { volumes = slice_set b.volumes place (seen new) })
+    arms_place : ArmsBare b (suc place) tear result (record b { volumes = slice_set b.volumes place (seen new) })
     arms_place = record {
       there = λ so. omega (arith, inside_seen);
       answer = λ lt. arms.answer ∙ ap (λ (d : Seen). d.arms) is_seen;
@@ -99,7 +100,7 @@ module _ {A : Type 0} (seen : A → Seen) (state : A) (volumes : List A) (note :
       sure = λ lt steady. sure (ap (λ (d : Seen). d.steady) is_seen ∙ steady);
     }
 
-    pub arms_seen : (disk : ℕ) → disk ≡ suc place → ArmsBare b disk result (seen_as seen state (set volumes place new) note)
+    pub arms_seen : (disk : ℕ) → disk ≡ suc place → ArmsBare b disk tear result (seen_as seen state (set volumes place new) note)
     arms_seen disk at =
-        subst (λ (k : ℕ). ArmsBare b k result (seen_as seen state (set volumes place new) note)) (sym at)
-        (subst (λ (x : BareDisks). ArmsBare b (suc place) result x) (after_is seen state volumes note b view place was value there_seen new) arms_place)
+        subst (λ (k : ℕ). ArmsBare b k tear result (seen_as seen state (set volumes place new) note)) (sym at)
+        (subst (λ (x : BareDisks). ArmsBare b (suc place) tear result x) (after_is seen state volumes note b view place was value there_seen new) arms_place)

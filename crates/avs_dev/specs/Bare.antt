@@ -3,8 +3,9 @@ use Rattle.std.specs.Prelude.{◌≡◌, ℕ, ◌+◌, ◌-◌, ◌/◌, ◌^◌
 use Rattle.std.specs.List.{list_all}
 use Rattle.avs_seg.specs.Image.{Block, block_at}
 use Rattle.avs_seg.specs.Causes.{Rose}
-use Rattle.avs_dev.specs.Seen.{Seen, IsTold, Reads, Writes}
+use Rattle.avs_dev.specs.Seen.{Seen, IsTold, Reads, Writes, with_tear}
 use Rattle.avs_dev.specs.Below.{BelowSeen, IsNoteInStep}
+use Rattle.avs_dev.specs.declared.disk.Tear.{Tear}
 use Rattle.avs_dev.specs.declared.back.Why.{Why}
 use Rattle.avs_dev.specs.declared.back.Why.TheVariants.{Size, BadRecord, NoMemory, Fault}
 
@@ -59,8 +60,13 @@ abbrev pub AddsBlocks : List ℕ → ℕ → ℕ → List ℕ → Bool → List 
 AddsBlocks old vol at bytes true new = new ≡ slice_set old vol (min (slice_index old vol + length bytes / 512) (2 ^ 64 - 1))
 AddsBlocks old vol at bytes false new = new ≡ old
 
+-- the note on the state disk, where it is told, is the one in memory
+abbrev pub IsSoundBare : BareDisks → Type 0
+IsSoundBare b = IsNoteInStep (below_of b)
+
 -- there is no volume yet, and the note is that of the state disk
 pub record Opens (old : Seen) (new : BareDisks) : Type 0 where
+  pub kept : new.state ≡ old
   pub rest : new.state ≡ record old { faults = new.state.faults }
   pub none : new.volumes ≡ []
   pub note : IsTold old → new.note ≡ note_in (block_at old.image 1)
@@ -94,11 +100,11 @@ pub record WritesNote {T E : Type 0} (old : BareDisks) (note : List ℕ) (result
   pub rest : new ≡ record old { state = new.state; note = if is_ok result then note else old.note }
   pub writes : Writes old.state 1 (note_block note) result new.state
 
--- a tear is armed exactly on a disk that is there and lets one be armed; where none is, nothing changes
-pub record ArmsBare (old : BareDisks) (disk : ℕ) (result : Bool) (new : BareDisks) : Type 0 where
+-- exactly this tear is armed, exactly on a disk that is there and lets one be armed; where none is, nothing changes
+pub record ArmsBare (old : BareDisks) (disk : ℕ) (tear : Tear) (result : Bool) (new : BareDisks) : Type 0 where
   pub there : IsTrue result → disk < length (disks_of old)
   pub answer : disk < length (disks_of old) → result ≡ (disk_at old disk).arms
-  pub armed : IsTrue result → disks_of new ≡ slice_set (disks_of old) disk (record (disk_at old disk) { armed = true })
+  pub armed : IsTrue result → disks_of new ≡ slice_set (disks_of old) disk (with_tear tear (disk_at old disk))
   pub unarmed : IsTrue (not result) → new ≡ old
   pub note : new.note ≡ old.note
   pub sure : disk < length (disks_of old) → IsTrue (disk_at old disk).steady → IsTrue result

@@ -47,37 +47,37 @@ pub record IsRangeOf (s : BelowSeen) (vol at len : ℕ) : Type 0 where
   pub whole : 512 * (len / 512) ≡ len
   pub inside : at + len / 512 ≤ size_of s vol
 
--- a read changes nothing but the faults, and at Ok it gives the blocks of the volume
-pub record ReadsBelow {T E : Type 0} (old : BelowSeen) (vol at : ℕ) (out : List ℕ) (result : Result T E) (new : BelowSeen) : Type 0 where
+-- a read changes nothing but the faults, and at Ok it gives the blocks of the volume, where it was sound
+pub record ReadsBelow {T E : Type 0} (sound : Type 0) (old : BelowSeen) (vol at : ℕ) (out : List ℕ) (result : Result T E) (new : BelowSeen) : Type 0 where
   pub kept : new ≡ record old { faults = new.faults }
   pub images : new.images ≡ old.images
   pub sizes : new.sizes ≡ old.sizes
   pub cause : HasOneCause old.faults new.faults result
   pub told : (any : ℕ) → IsToldAt old any → IsToldAt new any
-  pub shows : IsToldAt old vol → OnOk result (blocks_of out ≡ range (image_of old vol) at (length out / 512))
+  pub shows : sound → IsToldAt old vol → OnOk result (blocks_of out ≡ range (image_of old vol) at (length out / 512))
   pub sure : IsTrue old.steady → IsOk result
 
--- a write that answers Ok is a put, and one that fails leaves each block of its range old or new; the other volumes and
--- the note stay
-pub record WritesBelow {T E : Type 0} (old : BelowSeen) (vol at : ℕ) (bytes : List ℕ) (result : Result T E) (new : BelowSeen) : Type 0 where
+-- where it was sound, a write that answers Ok is a put, and one that fails leaves each block of its range old or new; the
+-- other volumes and the note stay
+pub record WritesBelow {T E : Type 0} (sound : Type 0) (old : BelowSeen) (vol at : ℕ) (bytes : List ℕ) (result : Result T E) (new : BelowSeen) : Type 0 where
   pub others : new.images ≡ slice_set old.images vol (image_of new vol)
   pub sizes : new.sizes ≡ old.sizes
   pub note : new.note ≡ old.note
   pub stored : new.stored ≡ old.stored
   pub steady : new.steady ≡ old.steady
   pub cause : HasOneCause old.faults new.faults result
-  pub done : IsToldAt old vol → OnOk result (image_of new vol ≡ put (image_of old vol) at (blocks_of bytes))
-  pub failed : IsToldAt old vol → OnErr result (IsMix (image_of old vol) at (blocks_of bytes) (image_of new vol))
-  pub within : IsToldAt old vol → ChangesWithin at (length bytes / 512) (image_of old vol) (image_of new vol)
+  pub done : sound → IsToldAt old vol → OnOk result (image_of new vol ≡ put (image_of old vol) at (blocks_of bytes))
+  pub failed : sound → IsToldAt old vol → OnErr result (IsMix (image_of old vol) at (blocks_of bytes) (image_of new vol))
+  pub within : sound → IsToldAt old vol → ChangesWithin at (length bytes / 512) (image_of old vol) (image_of new vol)
   pub told : (any : ℕ) → IsToldAt old any → IsToldAt new any
   pub kept : (other : ℕ) → other ≢ vol → image_of new other ≡ image_of old other
   pub still_armed : OnOk result (new.armed ≡ old.armed)
   pub spent : IsTrue old.steady → OnErr result (UsesOneTear old.armed new.armed)
 
 -- the note is set, and where that fails the one that is answered and the one on the disk are each the old or the new one;
--- all volumes stay
-pub record SetsNote {T E : Type 0} (old : BelowSeen) (bytes : List ℕ) (result : Result T E) (new : BelowSeen) : Type 0 where
-  pub images : new.images ≡ old.images
+-- all volumes stay, where it was sound
+pub record SetsNote {T E : Type 0} (sound : Type 0) (old : BelowSeen) (bytes : List ℕ) (result : Result T E) (new : BelowSeen) : Type 0 where
+  pub images : sound → new.images ≡ old.images
   pub sizes : new.sizes ≡ old.sizes
   pub steady : new.steady ≡ old.steady
   pub cause : HasOneCause old.faults new.faults result

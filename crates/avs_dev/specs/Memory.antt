@@ -41,6 +41,7 @@ seen_of d = record {
   written = d.written;
   steady = length d.fails == 0;
   armed = is_some d.tear;
+  tear = d.tear;
   arms = true;
 }
 

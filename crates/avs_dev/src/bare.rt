@@ -124,7 +124,7 @@ impl<D: Disk> Bare<D> {
     pub fn arm(&mut self, disk: u32, tear: Tear) -> bool
     where
         D: Arm,
-        ensures { ArmsBare self.old disk result self.new }
+        ensures { ArmsBare self.old disk tear result self.new }
     {
         if disk == 0 {
             return self.state.arm(tear);
@@ -135,9 +135,9 @@ impl<D: Disk> Bare<D> {
 }
 
 impl<D: Disk> Below for Bare<D> {
-    ghost use Rattle.std.specs.Prelude.{is_ok, ℕ, List};
+    ghost use Rattle.std.specs.Prelude.{is_ok, OnOk, ℕ, List};
     ghost use Rattle.avs_dev.specs.Below.{Counts, IsRangeOf, ReadsBelow, WritesBelow, SetsNote, size_of};
-    ghost use Rattle.avs_dev.specs.Bare.{below_of, written_on, AddsBlocks, ReadsVolume, WritesVolume, WritesNote};
+    ghost use Rattle.avs_dev.specs.Bare.{below_of, written_on, AddsBlocks, IsSoundBare, ReadsVolume, WritesVolume, WritesNote};
 
     ghost seen = { below_of };
 
@@ -147,6 +147,8 @@ impl<D: Disk> Below for Bare<D> {
     ghost rest = { written_on };
 
     ghost wrote = { AddsBlocks };
+
+    ghost IsSound = { IsSoundBare };
 
     fn count(&self) -> u32 {
         self.volumes.len() as u32
@@ -158,7 +160,8 @@ impl<D: Disk> Below for Bare<D> {
 
     fn read(&mut self, vol: u32, at: u32, out: &mut [u8]) -> Result<(), Failed>
         requires { IsRangeOf (below_of self.old) vol at (length out.old) }
-        ensures reads { ReadsBelow (below_of self.old) vol at out.new result (below_of self.new) }
+        ensures reads { ReadsBelow (IsSoundBare self.old) (below_of self.old) vol at out.new result (below_of self.new) }
+        ensures sound { IsSoundBare self.old → IsSoundBare self.new }
         ensures rest { written_on self.new ≡ written_on self.old }
         ensures volume { ReadsVolume self.old vol at out.new result self.new }
     {
@@ -167,7 +170,8 @@ impl<D: Disk> Below for Bare<D> {
 
     fn write(&mut self, vol: u32, at: u32, bytes: &[u8]) -> Result<(), Failed>
         requires { IsRangeOf (below_of self.old) vol at (length bytes.now) }
-        ensures writes { WritesBelow (below_of self.old) vol at bytes.now result (below_of self.new) }
+        ensures writes { WritesBelow (IsSoundBare self.old) (below_of self.old) vol at bytes.now result (below_of self.new) }
+        ensures sound { IsSoundBare self.old → OnOk result (IsSoundBare self.new) }
         ensures wrote { AddsBlocks (written_on self.old) vol at bytes.now (is_ok result) (written_on self.new) }
         ensures volume { WritesVolume self.old vol at bytes.now result self.new }
     {
@@ -180,7 +184,8 @@ impl<D: Disk> Below for Bare<D> {
 
     /// Writes block 1 of the state disk with zeros around the note. After `Failed` the note in memory is the old one.
     fn set_note(&mut self, note: &[u8; 64]) -> Result<(), Failed>
-        ensures sets { SetsNote (below_of self.old) note.now result (below_of self.new) }
+        ensures sets { SetsNote (IsSoundBare self.old) (below_of self.old) note.now result (below_of self.new) }
+        ensures sound { IsSoundBare self.old → OnOk result (IsSoundBare self.new) }
         ensures rest { written_on self.new ≡ written_on self.old }
         ensures state { WritesNote self.old note.now result self.new }
     {

@@ -1,5 +1,5 @@
 // Disks of blocks of 512 bytes that write through.
-ghost use Rattle.std.specs.Prelude.{◌≡◌, ◌<◌, ◌^◌, IsTrue, length};
+ghost use Rattle.std.specs.Prelude.{◌≡◌, ◌<◌, ◌^◌, IsTrue, is_some, length};
 ghost use Rattle.avs_dev.specs.Seen.{Seen, IsRange, Reads, Writes, Arms};
 
 use avs_seg::Failed;
@@ -29,6 +29,9 @@ pub trait Disk: Drop {
 
     /// The blocks of a disk can be numbered by a `u32`.
     ghost fits: { (d : Self) → (seen d).size < 2 ^ 32 };
+
+    /// A tear is armed where the disk has one.
+    ghost armed_is: { (d : Self) → (seen d).armed ≡ is_some (seen d).tear };
 }
 
 /// After `skip` further writes the next one fails, and stores `count` of its blocks from its block `from` on, as far as it has them.
@@ -43,7 +46,7 @@ pub struct Tear {
 pub trait Arm: Disk {
     /// Arms a tear, in the place of one that is armed. The answer is false where the disk can't be armed.
     fn arm(&mut self, tear: Tear) -> bool
-        ensures { Arms (Self.seen self.old) result (Self.seen self.new) };
+        ensures { Arms (Self.seen self.old) tear result (Self.seen self.new) };
 
     /// A steady disk can be armed, so that it too can be seen to fail.
     ghost steady_arms: { (d : Self) → IsTrue (Self.seen d).steady → IsTrue (Self.seen d).arms };

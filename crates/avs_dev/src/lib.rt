@@ -3,20 +3,20 @@
 
 mod back;
 mod bare;
-#[cfg(test)]
-mod bare_tests;
 mod below;
 mod disk;
+mod errand;
+mod laws;
 mod mem_disk;
 mod mem_rack;
 mod rack;
-#[cfg(test)]
-mod tests;
 
 pub use back::{Back, Closed, Closed2, Why};
 pub use bare::Bare;
 pub use below::Below;
 pub use disk::{Arm, Disk, Tear};
+pub use errand::Errand;
+pub use laws::{calls_follow_calls, disks_stay_beside_one};
 pub use mem_disk::MemDisk;
 pub use mem_rack::MemRack;
 pub use rack::{Rack, RackFault};

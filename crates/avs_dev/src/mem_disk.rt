@@ -104,7 +104,8 @@ impl MemDisk {
     // Stores the blocks of a write, and counts them.
     fn store_all(&mut self, at: u32, bytes: &[u8])
         requires { IsRange (seen_of (state_of self.old)) at (length bytes.now) }
-        ensures { state_of self.new ≡ stored None (state_of self.old) at (blocks_of bytes.now) }
+        ensures later { self.old.written ≤ self.new.written }
+        ensures after { state_of self.new ≡ stored None (state_of self.old) at (blocks_of bytes.now) }
     {
         store(&mut self.bytes, at as usize, bytes);
         self.written = self.written.saturating_add((bytes.len() / BLOCK) as u64);
@@ -126,13 +127,15 @@ impl MemDisk {
 }
 
 impl Disk for MemDisk {
-    ghost use Rattle.std.specs.Prelude.{not, is_ok};
+    ghost use Rattle.std.specs.Prelude.{not, is_ok, refl};
     ghost use Rattle.avs_dev.specs.Seen.{IsRange, Reads, Writes};
     ghost use Rattle.avs_dev.specs.Memory.{state_of, seen_of, is_listed, is_failing, after_read, after_write};
 
     ghost seen = { λ m. seen_of (state_of m) };
 
     ghost fits = { λ m. m.in_range };
+
+    ghost armed_is = { λ _. refl };
 
     fn blocks(&self) -> u32 {
         self.size
@@ -190,7 +193,7 @@ impl Arm for MemDisk {
 
     /// It can always be armed.
     fn arm(&mut self, tear: Tear) -> bool
-        ensures arms { Arms (seen_of (state_of self.old)) result (seen_of (state_of self.new)) }
+        ensures arms { Arms (seen_of (state_of self.old)) tear result (seen_of (state_of self.new)) }
         ensures after { state_of self.new ≡ record (state_of self.old) { tear = Some tear } }
     {
         self.tear = Some(tear);

@@ -1,5 +1,5 @@
 // Racks of disks in memory, which refuse the calls of a list.
-ghost use Rattle.std.specs.Prelude.{◌≡◌, ◌↔◌, ◌≤◌, IfOk, IsTrue};
+ghost use Rattle.std.specs.Prelude.{◌≡◌, ◌↔◌, ◌≤◌, IfOk, IsTrue, is_ok};
 
 use crate::mem_disk::MemDisk;
 use crate::rack::{Rack, RackFault};
@@ -12,6 +12,7 @@ pub struct MemRack {
     disk_fails: Vec<u64>,
     calls: u64,
     faults: u64,
+    made: u64,
 }
 
 impl MemRack {
@@ -19,13 +20,14 @@ impl MemRack {
 
     /// Its calls of `make` with the numbers of `fails` are refused, counted from 1. Each disk fails at the calls of `disk_fails`.
     pub fn new(fails: Vec<u64>, disk_fails: Vec<u64>) -> MemRack
-        ensures { rack_of result ≡ record { fails = fails.items; disk_fails = disk_fails.items; calls = 0; faults = 0 } }
+        ensures { rack_of result ≡ record { fails = fails.items; disk_fails = disk_fails.items; calls = 0; faults = 0; made = 0 } }
     {
         MemRack {
             fails,
             disk_fails,
             calls: 0,
             faults: 0,
+            made: 0,
         }
     }
 
@@ -47,7 +49,7 @@ impl MemRack {
 impl Rack for MemRack {
     ghost use Rattle.avs_dev.specs.Rack.{Makes};
     ghost use Rattle.avs_dev.specs.Memory.{state_of, seen_of, new_state};
-    ghost use Rattle.avs_dev.specs.MemRacks.{rack_of, rack_seen_of, is_refusing, after_make};
+    ghost use Rattle.avs_dev.specs.MemRacks.{rack_of, rack_seen_of, is_refusing, rack_after};
 
     type D = MemDisk;
 
@@ -57,13 +59,15 @@ impl Rack for MemRack {
     fn make(&mut self, alloc: Global, blocks: u32) -> Result<MemDisk, RackFault>
         ensures makes { Makes (λ d. seen_of (state_of d)) (rack_seen_of (rack_of self.old)) blocks result (rack_seen_of (rack_of self.new)) }
         ensures refused { IsTrue (is_refusing (rack_of self.old)) ↔ (result ≡ Err RackFault.Refused) }
-        ensures after { rack_of self.new ≡ after_make (rack_of self.old) }
+        ensures after { rack_of self.new ≡ rack_after (is_ok result) (rack_of self.old) }
         ensures made { IfOk result (λ d. state_of d ≡ new_state blocks (rack_of self.old).disk_fails) }
     {
         if self.refuses() {
             return Err(RackFault::Refused);
         }
         let fails = self.disk_fails.to_vec(alloc)?;
-        Ok(MemDisk::new(alloc, blocks, fails)?)
+        let disk = MemDisk::new(alloc, blocks, fails)?;
+        self.made = self.made.saturating_add(1);
+        Ok(disk)
     }
 }

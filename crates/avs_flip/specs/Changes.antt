@@ -2,7 +2,8 @@
 use Rattle.std.specs.Prelude.{◌≡◌, ◌⊎◌, ℕ, ◌+◌, ◌*◌, ◌==◌, Bool, ◌&&◌, true, not, IsTrue, if◌then◌else◌, Option, None, Some, Result, OnOk, OnErr, slice_set}
 use Rattle.avs_seg.specs.Image.{Block, Image, block_at, ChangesWithin}
 use Rattle.avs_seg.specs.Causes.{HasCause}
-use Rattle.avs_dev.specs.Seen.{IsTold, Reads, Writes}
+use Rattle.avs_dev.specs.Seen.{IsTold, Reads, Writes, with_tear}
+use Rattle.avs_dev.specs.declared.disk.Tear.{Tear}
 use Rattle.avs_flip.specs.Areas.{Areas, live, staged, live_from, staged_from}
 
 -- one block of an area is set, and where that fails it is set or as it was
@@ -50,10 +51,11 @@ pub record Turns (old new : Areas) : Type 0 where
   pub now_live : live new ≡ staged old
   pub now_staged : staged new ≡ live old
 
--- a tear is armed exactly on the disk with number 0, and where it lets one be armed; where none is, nothing changes
-pub record ArmsDisk (old : Areas) (disk : ℕ) (result : Bool) (new : Areas) : Type 0 where
+-- exactly this tear is armed, exactly on the disk with number 0, and where it lets one be armed; where none is, nothing
+-- changes
+pub record ArmsDisk (old : Areas) (disk : ℕ) (tear : Tear) (result : Bool) (new : Areas) : Type 0 where
   pub answer : result ≡ ((disk == 0) && old.disk.arms)
-  pub armed : IsTrue result → new ≡ record old { disk = record old.disk { armed = true } }
+  pub armed : IsTrue result → new ≡ record old { disk = with_tear tear old.disk }
   pub unarmed : IsTrue (not result) → new ≡ old
   pub len : new.len ≡ old.len
   pub sure : disk ≡ 0 → IsTrue old.disk.steady → IsTrue result

@@ -121,7 +121,7 @@ impl<D: Disk> Flip<D> {
     pub fn arm(&mut self, disk: u32, tear: Tear) -> bool
     where
         D: Arm,
-        ensures { ArmsDisk self.old disk result self.new }
+        ensures { ArmsDisk self.old disk tear result self.new }
     {
         disk == 0 && self.disk.arm(tear)
     }

@@ -1,6 +1,7 @@
-use Rattle.std.proofs.Common.{◌≡◌, ◌/◌, ◌+◌, ◌-◌, ◌*◌, ◌≤◌, ℕ, min, max, IsTrue, Bool, ap, sym, subst, refl, ◌∙◌, arith}
+use Rattle.std.proofs.Common.{◌≡◌, ◌/◌, ◌+◌, ◌-◌, ◌*◌, ◌≤◌, ℕ, min, max, IsTrue, Bool, ap, sym, subst, Ok, refl, ◌∙◌, arith}
 use Rattle.avs_seg.proofs.Exits.{err_exit}
 use Rattle.avs_seg.proofs.Changes.{ChangesWithin-same, ChangesWithin_then, ChangesWithin_wider}
+use Rattle.avs_dev.proofs.Going.{goes_same, goes_then, goes_ok, goes_stops}
 use Rattle.avs_bits.specs.Bit.{bit_of, raised, due_below}
 use Rattle.avs_bits.proofs.SomeBits.{put_none}
 use Rattle.avs_bits.proofs.Dues.{written_none, written_more}
@@ -14,6 +15,7 @@ loop-block-init g c = record {
   steady = refl;
   told = λ told. told;
   later = omega arith;
+  goes = goes_same (g.D.Disk.seen c.args.disk.now) 0;
   within = λ told. ChangesWithin-same _ _ _;
   still = λ told k idle. refl;
   written = written_none (bit_of c.args.bytes.now.items) c.args.from c.args.to c.args.on (c.args.from / 4096) (g.D.Disk.seen c.args.disk.now).written (omega arith);
@@ -42,6 +44,7 @@ loop-block-preserved g c =
       steady = c.change_block.ensures.steady ∙ so_far.steady;
       told = λ told. c.change_block.ensures.told (so_far.told told);
       later = omega arith;
+      goes = goes_then before then now 0 (Ok 0) so_far.goes (goes_ok then now _ 0 e.goes);
       within = λ told. ChangesWithin_then (c.args.from / 4096) ((c.args.to + 4095) / 4096 - c.args.from / 4096) before.image then.image now.image (so_far.within told)
           (ChangesWithin_wider block 1 (c.args.from / 4096) ((c.args.to + 4095) / 4096 - c.args.from / 4096) then.image now.image (omega arith) (omega arith) (c.change_block.ensures.within (so_far.told told)));
       still = λ told k none. still_more old mid c.args.from c.args.to block c.max-low.result c.min-high.result c.args.on then now low high so_far.put (c.change_block.ensures.within (so_far.told told)) (λ idle. (c.change_block.ensures.idle idle).0) k none ∙ so_far.still told k none;
@@ -60,6 +63,10 @@ returns-in_err-change_block-clause-stopped g c =
     (g.D.Disk.seen c.args.disk.now) (g.D.Disk.seen c.loop-block.disk) (g.D.Disk.seen c.change_block.new.disk)
     c.requires.ordered (omega arith) (omega arith) (omega arith) (omega arith) now.put c.change_block.ensures.put e.due now.written e.unwritten
     (λ told n held. e.failed (now.told told) n (now.held told n held)))
+
+pub returns-in_err-change_block-clause-goes : goal.returns-in_err-change_block-clause-goes
+returns-in_err-change_block-clause-goes g c =
+    goes_stops (g.D.Disk.seen c.args.disk.now) (g.D.Disk.seen c.loop-block.disk) (g.D.Disk.seen c.change_block.new.disk) 0 _ c.from_residual.result c.from_residual.ensures.0 c.loop-block.invariant.goes c.in_err-change_block.ensures.goes
 
 pub returns-in_err-change_block-clause-still : goal.returns-in_err-change_block-clause-still
 returns-in_err-change_block-clause-still g c told k none =

@@ -1,6 +1,6 @@
-use Rattle.std.proofs.Common.{◌≡◌, ◌≤◌, ◌+◌, ◌-◌, ◌*◌, ◌/◌, ◌<◌, min, ℕ, false, length}
+use Rattle.std.proofs.Common.{◌≡◌, ◌≤◌, ◌+◌, ◌-◌, ◌*◌, ◌/◌, ◌<◌, min, ℕ, false, Ok, length}
 use Rattle.avs_seg.specs.Image.{block_at, ChangesWithin}
-use Rattle.avs_dev.specs.Seen.{IsTold}
+use Rattle.avs_dev.specs.Seen.{IsTold, GoesOn}
 use Rattle.avs_bits.specs.Bit.{bit_of, is_due, due_below, raised, IsPut, IsHeld}
 use Rattle.avs_bits.proofs.changes.change.Given as goal
 
@@ -14,6 +14,7 @@ invariant-loop-block g l =
       steady : now.steady ≡ before.steady;
       told : IsTold before → IsTold now;
       later : before.faults ≤ now.faults;
+      goes : GoesOn {T = ℕ} {E = ℕ} before (Ok 0) now;
       within : IsTold before → ChangesWithin (l.from / 4096) ((l.to + 4095) / 4096 - l.from / 4096) before.image now.image;
       still : IsTold before → (k : ℕ) → is_due (bit_of l.fn.bytes.items) l.from l.to l.on k ≡ false → block_at now.image k ≡ block_at before.image k;
       written : now.written ≡ raised before.written (due_below (bit_of l.fn.bytes.items) l.from l.to l.on l.block);

@@ -9,5 +9,5 @@ returns-then-place-len g c =
     let was = c.index_mut.result.now in
     let arms = c.arm-then-place-len.ensures in
     let lt : place < length i.volumes.items = search rules in
-    arms_seen g.D.Disk.seen i.state i.volumes.items i.note c.args.self.now c.self.view_is place was c.index_mut.ensures.value lt c.arm-then-place-len.new.self c.arm-then-place-len.result arms
+    arms_seen g.D.Disk.seen i.state i.volumes.items i.note c.args.self.now c.self.view_is place was c.index_mut.ensures.value lt c.arm-then-place-len.new.self c.args.tear c.arm-then-place-len.result arms
     (λ steady. subst (λ (b : Bool). IsTrue b) (sym arms.answer) (g.met.D.Arm.steady_arms was steady)) c.args.disk (omega (arith, c.if-disk-eq0.false))

@@ -6,8 +6,8 @@ use Rattle.avs_seg.proofs.Bytes.{length-blocks_of}
 use Rattle.avs_dev.specs.Memory.{state_of, stored, counted}
 use Rattle.avs_dev.proofs.mem_disk.MemDisk.store_all.Goals as goal
 
-pub returns : goal.returns
-returns c =
+pub returns-clause-after : goal.returns-clause-after
+returns-clause-after c =
     let blocks = blocks_of c.args.bytes.now in
     let items : (with_items c.args.self.now.bytes c.store.new.bytes).items ≡ c.store.new.bytes = with_items_is c.args.self.now.bytes c.store.new.bytes (search rules) in
     let image = ap (λ (l : List ℕ). blocks_of l) items ∙ c.store.ensures ∙ ap (λ (l : List ℕ). put (blocks_of l) c.args.at blocks) c.deref_mut.ensures.value in

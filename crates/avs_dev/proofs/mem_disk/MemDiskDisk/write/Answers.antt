@@ -11,4 +11,4 @@ returns-in-Some-clause-writes c =
 pub returns-clause-writes : goal.returns-clause-writes
 returns-clause-writes c =
     Writes-done_after (state_of c.args.self.now) (state_of c.fails_by_list.new.self) (state_of c.take_due.new.self) (state_of c.store_all.new.self) c.args.at c.args.bytes.now (search rules) c.take_due.ensures.after
-    _ (search rules) c.store_all.ensures
+    _ (search rules) c.store_all.ensures.later c.store_all.ensures.after
