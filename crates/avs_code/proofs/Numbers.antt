@@ -6,11 +6,11 @@ use Rattle.std.proofs.Math.Seq.{take-add}
 use Rattle.std.proofs.lemmas.Bool.{cases_lt}
 use Rattle.std.proofs.lemmas.Bool.Decides.{Decides-and, Decides-eqb}
 use Rattle.std.specs.Prelude.{◌==◌, nat_eq}
-use Rattle.std.proofs.lemmas.Nat.{be_bytes_4, be_bytes_8}
+use Rattle.std.proofs.lemmas.Nat.{be_bytes_2, be_bytes_4, be_bytes_8}
 use Rattle.std.specs.List.{starts_with}
 use Rattle.std.proofs.lemmas.Slice.Eq.{slice_eq-Decides}
-use Rattle.std.specs.Int.{w32, w64, from_be_bytes}
-use Rattle.avs_code.specs.Bytes.{zeros, all_zero, u32_bytes, u64_bytes, u32_at, u64_at}
+use Rattle.std.specs.Int.{w16, w32, w64, from_be_bytes}
+use Rattle.avs_code.specs.Bytes.{zeros, all_zero, u16_bytes, u32_bytes, u64_bytes, u16_at, u32_at, u64_at}
 
 -- a part of some bytes is bytes
 pub part_bytes : (xs : List ℕ) (at n : ℕ) → ((i : ℕ) → get_or xs i 0 < 256) → (i : ℕ) → get_or (take n (drop at xs)) i 0 < 256
@@ -23,6 +23,10 @@ pub length_part : (xs : List ℕ) (at n : ℕ) → at + n ≤ length xs → leng
 length_part xs at n within = length-take-le n (drop at xs) (omega (arith, length-drop at xs))
 
 -- the bytes of the number that was read
+pub u16_bytes-u16_at : (xs : List ℕ) (at : ℕ) → at + 2 ≤ length xs → ((i : ℕ) → get_or xs i 0 < 256) → u16_bytes (u16_at at xs) ≡ take 2 (drop at xs)
+unfolding u16_bytes u16_at
+u16_bytes-u16_at xs at within bytes = be_bytes_2 (take 2 (drop at xs)) _ (length_part xs at 2 within) (part_bytes xs at 2 bytes) refl
+
 pub u32_bytes-u32_at : (xs : List ℕ) (at : ℕ) → at + 4 ≤ length xs → ((i : ℕ) → get_or xs i 0 < 256) → u32_bytes (u32_at at xs) ≡ take 4 (drop at xs)
 unfolding u32_bytes u32_at
 u32_bytes-u32_at xs at within bytes = be_bytes_4 (take 4 (drop at xs)) _ (length_part xs at 4 within) (part_bytes xs at 4 bytes) refl
@@ -30,6 +34,10 @@ u32_bytes-u32_at xs at within bytes = be_bytes_4 (take 4 (drop at xs)) _ (length
 pub u64_bytes-u64_at : (xs : List ℕ) (at : ℕ) → at + 8 ≤ length xs → ((i : ℕ) → get_or xs i 0 < 256) → u64_bytes (u64_at at xs) ≡ take 8 (drop at xs)
 unfolding u64_bytes u64_at
 u64_bytes-u64_at xs at within bytes = be_bytes_8 (take 8 (drop at xs)) _ (length_part xs at 8 within) (part_bytes xs at 8 bytes) refl
+
+pub length-u16_bytes : (n : ℕ) → length (u16_bytes n) ≡ 2
+unfolding u16_bytes
+length-u16_bytes n = refl
 
 pub length-u32_bytes : (n : ℕ) → length (u32_bytes n) ≡ 4
 unfolding u32_bytes
@@ -48,6 +56,12 @@ part_at : (xs : List ℕ) (at n i k : ℕ) → i < n → k ≡ at + i → get_or
 part_at xs at n i k inside place = rw (get_or-take n (drop at xs) i 0 inside, get_or-drop at xs i 0, place) refl
 
 -- what is read of the bytes that stand one after another
+pub u16_at-reads : (xs : List ℕ) (at : ℕ) → from_be_bytes w16 (get_or xs at 0 ∷ get_or xs (at + 1) 0 ∷ []) ≡ u16_at at xs
+unfolding u16_at
+u16_at-reads xs at =
+    let byte = λ (i k : ℕ) (inside : i < 2) (place : k ≡ at + i). part_at xs at 2 i k inside place in
+    rw (byte 0 at (lit< tt) (omega arith), byte 1 (at + 1) (lit< tt) refl) refl
+
 pub u32_at-reads : (xs : List ℕ) (at : ℕ) → from_be_bytes w32 (get_or xs at 0 ∷ get_or xs (at + 1) 0 ∷ get_or xs (at + 2) 0 ∷ get_or xs (at + 3) 0 ∷ []) ≡ u32_at at xs
 unfolding u32_at
 u32_at-reads xs at =
@@ -61,6 +75,9 @@ u64_at-reads xs at =
     rw (byte 0 at (lit< tt) (omega arith), byte 1 (at + 1) (lit< tt) refl, byte 2 (at + 2) (lit< tt) refl, byte 3 (at + 3) (lit< tt) refl, byte 4 (at + 4) (lit< tt) refl, byte 5 (at + 5) (lit< tt) refl, byte 6 (at + 6) (lit< tt) refl, byte 7 (at + 7) (lit< tt) refl) refl
 
 -- bytes that begin as xs does, and the next number of xs
+pub front-u16 : (front xs : List ℕ) (at : ℕ) → front ≡ take at xs → at + 2 ≤ length xs → ((i : ℕ) → get_or xs i 0 < 256) → front ++ u16_bytes (u16_at at xs) ≡ take (at + 2) xs
+front-u16 front xs at same within bytes = rw (same, u16_bytes-u16_at xs at within bytes) (sym (take-add at 2 xs))
+
 pub front-u32 : (front xs : List ℕ) (at : ℕ) → front ≡ take at xs → at + 4 ≤ length xs → ((i : ℕ) → get_or xs i 0 < 256) → front ++ u32_bytes (u32_at at xs) ≡ take (at + 4) xs
 front-u32 front xs at same within bytes = rw (same, u32_bytes-u32_at xs at within bytes) (sym (take-add at 4 xs))
 
@@ -126,6 +143,12 @@ written_part xs ys more at k is =
     rw (is, none, all, drop-drop k at xs, append-nil (more ++ drop (at + k) xs)) (sym (append_assoc (take at xs) more (drop (at + k) xs)))
 
 -- what lies in bytes fits its width
+pub u16_at-fits : (xs : List ℕ) (at : ℕ) → ((i : ℕ) → get_or xs i 0 < 256) → u16_at at xs < 2 ^ 16
+unfolding u16_at
+u16_at-fits xs at bytes =
+    let b = part_bytes xs at 2 bytes in
+    omega (arith, b 0, b 1)
+
 pub u32_at-fits : (xs : List ℕ) (at : ℕ) → ((i : ℕ) → get_or xs i 0 < 256) → u32_at at xs < 2 ^ 32
 unfolding u32_at
 u32_at-fits xs at bytes =

@@ -11,6 +11,7 @@ mod queue_headers;
 mod records;
 mod slot_table;
 
+pub use bytes::{is_zero, is_zero_from, put_part, put_u16, put_u64, start, u16_at, u64_at};
 pub use config_headers::{ConfigHeader, get_config_header, put_config_header};
 pub use group_blocks::{GroupBlock, get_group_block, put_group_block};
 pub use labels::{Label, LabelUse, get_label, get_label_of, put_label};
@@ -19,8 +20,5 @@ pub use land_headers::{
 };
 pub use laws::one_spelling;
 pub use queue_headers::{QueueHeader, get_queue_header, put_queue_header};
-pub use records::BadRecord;
+pub use records::{BadRecord, MAX_NUMBER, check};
 pub use slot_table::{SLOTS, Slot, Slots};
-
-#[cfg(test)]
-mod tests;

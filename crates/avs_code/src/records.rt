@@ -9,8 +9,8 @@ ghost use Rattle.avs_code.specs.Rules.{first_broken};
 #[derive(Clone, Copy, Debug, PartialEq, Eq)]
 pub struct BadRecord(pub u32);
 
-// The greatest session, place, mark and stamp.
-pub(crate) const MAX_NUMBER: u64 = 1 << 62;
+/// The greatest session, place, mark and stamp.
+pub const MAX_NUMBER: u64 = 1 << 62;
 
 // The place of the first rule that does not hold.
 fn first_broken(rules: &[bool]) -> Option<usize>
@@ -20,8 +20,8 @@ fn first_broken(rules: &[bool]) -> Option<usize>
     rules.iter().position(|&holds| !holds)
 }
 
-// Refuses the first field whose rule does not hold; `rules` has one answer a field.
-pub(crate) fn check(rules: &[bool]) -> Result<(), BadRecord>
+/// Refuses the first field whose rule does not hold; `rules` has one answer a field.
+pub fn check(rules: &[bool]) -> Result<(), BadRecord>
     requires { length rules.now < 2 ^ 32 }
     ensures { MatchResult result (λ _. first_broken rules.now ≡ None) (λ e. first_broken rules.now ≡ Some e.0) }
 {

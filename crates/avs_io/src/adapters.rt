@@ -1,5 +1,5 @@
 // A source over a reader of std, and a sink over a writer of std.
-ghost use Rattle.std.specs.Prelude.{◌≡◌, ◌≤◌, ◌<◌, None, length, is_err, IfOk, if◌then◌else◌};
+ghost use Rattle.std.specs.Prelude.{◌≡◌, ◌≤◌, ◌<◌, None, length, is_err, IfOk, OnOk, if◌then◌else◌};
 ghost use Rattle.std.specs.Io.KnownBytes.{ReadConsumes, WriteAppends};
 ghost use Rattle.avs_seg.specs.Causes.{HasCause};
 ghost use Rattle.avs_io.specs.Adapters.{reader_in, writer_in, read_faults, write_faults};
@@ -35,6 +35,7 @@ impl<R: Read> Source for Reading<R> {
     fn read(&mut self, out: &mut [u8]) -> Result<usize, Failed>
         ensures bound { IfOk result (λ n. n ≤ length out.new) }
         ensures cause { HasCause (read_faults self.old) (read_faults self.new) result }
+        ensures quiet { OnOk result (read_faults self.new ≡ read_faults self.old) }
         ensures count { read_faults self.new ≡ (if is_err result then one_more (read_faults self.old) else read_faults self.old) }
         ensures reads { ReadConsumes (R.remaining (reader_in self.old)) (R.remaining (reader_in self.new)) result out.new }
     {
@@ -76,6 +77,7 @@ impl<W: Write> Sink for Writing<W> {
         ensures bound { IfOk result (λ n. n ≤ length bytes.now) }
         ensures some { IfOk result (λ n. 0 < length bytes.now → 0 < n) }
         ensures cause { HasCause (write_faults self.old) (write_faults self.new) result }
+        ensures quiet { OnOk result (write_faults self.new ≡ write_faults self.old) }
         ensures count { write_faults self.new ≡ (if is_err result then one_more (write_faults self.old) else write_faults self.old) }
         ensures writes { WriteAppends (W.contents (writer_in self.old)) (W.contents (writer_in self.new)) result bytes.now }
     {

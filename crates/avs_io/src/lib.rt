@@ -10,6 +10,3 @@ pub use adapters::{Reading, Writing};
 pub use lines::{LineFault, LineText, Lines, MAX_LINE, MAX_LINES, Next};
 pub use memory::{MemSink, MemSource};
 pub use stream::{Sink, Source, put_all};
-
-#[cfg(test)]
-mod tests;

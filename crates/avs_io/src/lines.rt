@@ -1,5 +1,5 @@
 // Lines of a source, one at a time.
-ghost use Rattle.std.specs.Prelude.{◌≡◌, ◌+◌, ◌≤◌, ◌<◌, [], List, ℕ, Option, Ok, true, false, length, OnErr, OnOk, IfOk, IfErr, IsErrOf, IsTrue};
+ghost use Rattle.std.specs.Prelude.{◌≡◌, ◌≢◌, ◌+◌, ◌≤◌, ◌<◌, [], List, ℕ, Option, Ok, Err, true, false, length, OnErr, OnOk, IfOk, IfErr, IsErrOf, IsTrue};
 ghost use Rattle.std.specs.Option.{ForSome};
 ghost use Rattle.avs_seg.specs.Causes.{HasCause, Rose};
 ghost use Rattle.avs_seg.specs.Lines.{IsBeforeFeed, line_limit, lines_limit};
@@ -147,6 +147,7 @@ impl<'a, S: Source> Lines<'a, S> {
     fn fill(&mut self) -> Result<bool, Failed>
         ensures reference { KeepsSource self.old self.new }
         ensures cause { HasCause (faults_of self.old) (faults_of self.new) result }
+        ensures quiet { OnOk result (faults_of self.new ≡ faults_of self.old) }
         ensures same { IsSame (reader_of self.old) (reader_of self.new) }
         ensures some { result ≡ Ok true → HoldsSome (reader_of self.old) (reader_of self.new) (held self.new) }
         ensures none { result ≡ Ok false → IsDone (reader_of self.new) }
@@ -200,6 +201,7 @@ impl<'a, S: Source> Lines<'a, S> {
         ensures reference { KeepsSource self.old self.new }
         ensures later { faults_of self.old ≤ faults_of self.new }
         ensures read { IsErrOf result LineFault.Read → Rose (faults_of self.old) (faults_of self.new) }
+        ensures quiet { result ≢ Err LineFault.Read → faults_of self.new ≡ faults_of self.old }
         ensures gives { IfOk result (Gives (reader_of self.old) (reader_of self.new)) }
         ensures breaks { IfErr result (Breaks (reader_of self.old) (reader_of self.new)) }
     {
@@ -230,6 +232,7 @@ impl<'a, S: Source> Lines<'a, S> {
         ensures reference { KeepsSource self.old self.new }
         ensures later { faults_of self.old ≤ faults_of self.new }
         ensures read { IsErrOf result LineFault.Read → Rose (faults_of self.old) (faults_of self.new) }
+        ensures quiet { result ≢ Err LineFault.Read → faults_of self.new ≡ faults_of self.old }
 
         ensures gives { IfOk result (Gives (reader_of self.old) (reader_of self.new)) }
         ensures breaks { IfErr result (Breaks (reader_of self.old) (reader_of self.new)) }

@@ -1,5 +1,5 @@
 // Sources and sinks in memory, which fail at the calls that they are told.
-ghost use Rattle.std.specs.Prelude.{◌≡◌, ◌≤◌, ◌<◌, [], ℕ, Some, length, take, IfOk, OnErr};
+ghost use Rattle.std.specs.Prelude.{◌≡◌, ◌≤◌, ◌<◌, [], ℕ, Some, length, take, IfOk, OnErr, OnOk};
 ghost use Rattle.std.specs.Io.KnownBytes.{prepend_known, append_known, IsAtEnd};
 ghost use Rattle.avs_seg.specs.Causes.{HasCause};
 ghost use Rattle.avs_io.specs.Counts.{one_more};
@@ -72,6 +72,7 @@ impl Source for MemSource {
         ensures end { IfOk result (λ n. n ≡ 0 → 0 < length out.new → IsAtEnd (Some self.new.left)) }
         ensures kept { OnErr result (Some self.new.left ≡ Some self.old.left) }
         ensures cause { HasCause self.old.calls.faults self.new.calls.faults result }
+        ensures quiet { OnOk result (self.new.calls.faults ≡ self.old.calls.faults) }
         ensures supplies { Supplies self.old self.new (length out.new) result }
     {
         self.calls = self.calls.saturating_add(1);
@@ -145,6 +146,7 @@ impl Sink for MemSink {
         ensures bytes { IfOk result (λ n. Some self.new.taken ≡ append_known (Some self.old.taken) (take n bytes.now)) }
         ensures kept { OnErr result (Some self.new.taken ≡ Some self.old.taken) }
         ensures cause { HasCause self.old.calls.faults self.new.calls.faults result }
+        ensures quiet { OnOk result (self.new.calls.faults ≡ self.old.calls.faults) }
         ensures stores { Stores self.old self.new bytes.now result }
     {
         self.calls = self.calls.saturating_add(1);

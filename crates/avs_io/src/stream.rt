@@ -6,7 +6,7 @@ ghost use Rattle.avs_io.specs.Writes.{WritesPart};
 
 use avs_seg::Failed;
 
-/// Gives bytes.
+/// Gives bytes. Each call that fails is told by `Failed`, so a count that rose is never behind an `Ok`.
 pub trait Source {
     /// The bytes that are left, where it tells them.
     ghost left: { Self → Option (List ℕ) };
@@ -21,7 +21,8 @@ pub trait Source {
         ensures bytes { IfOk result (λ n. left self.old ≡ prepend_known (take n out.new) (left self.new)) }
         ensures end { IfOk result (λ n. n ≡ 0 → 0 < length out.new → IsAtEnd (left self.new)) }
         ensures kept { OnErr result (left self.new ≡ left self.old) }
-        ensures cause { HasCause (faults self.old) (faults self.new) result };
+        ensures cause { HasCause (faults self.old) (faults self.new) result }
+        ensures quiet { OnOk result (faults self.new ≡ faults self.old) };
 }
 
 /// Takes bytes.
@@ -38,7 +39,8 @@ pub trait Sink {
         ensures some { IfOk result (λ n. 0 < length bytes.now → 0 < n) }
         ensures bytes { IfOk result (λ n. written self.new ≡ append_known (written self.old) (take n bytes.now)) }
         ensures kept { OnErr result (written self.new ≡ written self.old) }
-        ensures cause { HasCause (faults self.old) (faults self.new) result };
+        ensures cause { HasCause (faults self.old) (faults self.new) result }
+        ensures quiet { OnOk result (faults self.new ≡ faults self.old) };
 }
 
 /// Gives all the bytes to the sink, in as many calls as it takes. After `Failed` the sink has
@@ -47,6 +49,7 @@ pub fn put_all<K: Sink>(sink: &mut K, bytes: &[u8]) -> Result<(), Failed>
     ensures all { OnOk result (K.written sink.new ≡ append_known (K.written sink.old) bytes.now) }
     ensures part { OnErr result (WritesPart (K.written sink.old) (K.written sink.new) bytes.now) }
     ensures cause { HasCause (K.faults sink.old) (K.faults sink.new) result }
+    ensures quiet { OnOk result (K.faults sink.new ≡ K.faults sink.old) }
 {
     let mut done = 0;
     while done < bytes.len() {

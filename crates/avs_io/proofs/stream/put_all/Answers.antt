@@ -15,5 +15,5 @@ loop-done-preserved g c =
       within = omega (arith, c.in_ok-done.ensures.bound, ap length rest, length-drop done bytes);
       taken = append_known-take (written c.args.sink.now) (written c.loop-done.sink) (written c.write.new.self) done n bytes c.loop-done.invariant.taken
           (c.in_ok-done.ensures.bytes ∙ ap (λ (l : List ℕ). append_known (written c.loop-done.sink) (take n l)) rest);
-      later = omega arith;
+      quiet = c.in_ok-done.ensures.quiet ∙ c.loop-done.invariant.quiet;
     }
