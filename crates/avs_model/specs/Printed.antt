@@ -13,7 +13,7 @@ use Rattle.avs_model.specs.declared.answer.Word.{Word}
 use Rattle.avs_model.specs.declared.answer.Word.TheVariants as word
 use Rattle.avs_model.specs.declared.answer.Role.{Role}
 use Rattle.avs_model.specs.declared.answer.Role.TheVariants as role
-use Rattle.avs_model.specs.declared.answer.Refusal.TheVariants.{Down, NoVolume, NoSet, NoGroup, Exists, BusyVolume, Length, Range, Size, Limit, WrongState, NoContents, BadRecord, NoMemory, Fault}
+use Rattle.avs_model.specs.declared.answer.Refusal.TheVariants.{Down, BadWord, NoFile, NoVolume, NoSet, NoGroup, NoTap, Exists, NotPrimary, LinkDown, BusyVolume, Length, Range, Size, Limit, Unlike, Tap, Stale, WrongState, NoPlace, Copying, NoContents, Offline, WrongStamp, Differ, QueueFull, BadRecord, NoMemory, Fault}
 use Rattle.avs_model.specs.declared.recovered.Second.{Second}
 use Rattle.avs_model.specs.declared.recovered.Second.TheVariants as second
 use Rattle.avs_model.specs.declared.recovered.GroupLine.{GroupLine}
@@ -61,26 +61,62 @@ host_text S = codes "s"
 abbrev pub word_text : Word → List ℕ
 word_text word.Up = codes "up"
 word_text word.Unarmed = codes "unarmed"
+word_text word.Ind = codes "ind"
+word_text word.Dep = codes "dep"
+word_text word.Compact = codes "compact"
+word_text word.Away = codes "away"
+word_text word.Exported = codes "exported"
+word_text word.Stopped = codes "stopped"
+word_text word.Present = codes "present"
+word_text word.Online = codes "online"
+word_text word.Plain = codes "plain"
+word_text word.Attached = codes "attached"
+word_text word.Detached = codes "detached"
+word_text word.Used = codes "used"
+word_text word.Logging = codes "logging"
+word_text word.Syncing = codes "syncing"
+word_text word.Receiving = codes "receiving"
+word_text word.Replicating = codes "replicating"
+word_text word.Queuing = codes "queuing"
 
 abbrev pub role_text : Role → List ℕ
+role_text role.Away = codes "away"
+role_text role.Mirror = codes "mirror"
 role_text role.Master = codes "master"
 role_text role.Shadow = codes "shadow"
 role_text role.Bitmap = codes "bitmap"
+role_text role.Overflow = codes "overflow"
+role_text role.Queue = codes "queue"
+role_text role.Import = codes "import"
 role_text role.Plain = codes "plain"
 
 abbrev pub refusal_text : Refusal → List ℕ
 refusal_text (Down host) = codes "Down " ++ host_text host
+refusal_text (BadWord word) = codes "BadWord " ++ decimal word
+refusal_text NoFile = codes "NoFile"
 refusal_text NoVolume = codes "NoVolume"
 refusal_text NoSet = codes "NoSet"
 refusal_text NoGroup = codes "NoGroup"
+refusal_text (NoTap tap) = codes "NoTap " ++ decimal tap
 refusal_text Exists = codes "Exists"
+refusal_text NotPrimary = codes "NotPrimary"
+refusal_text LinkDown = codes "LinkDown"
 refusal_text (BusyVolume role) = codes "BusyVolume " ++ role_text role
 refusal_text (Length len) = codes "Length " ++ decimal len
 refusal_text (Range blocks) = codes "Range " ++ decimal blocks
 refusal_text (Size need have) = codes "Size " ++ decimal need ++ 32 ∷ decimal have
 refusal_text (Limit limit) = codes "Limit " ++ decimal limit
+refusal_text (Unlike word) = codes "Unlike " ++ decimal word
+refusal_text (Tap tap code) = codes "Tap " ++ decimal tap ++ 32 ∷ decimal code
+refusal_text (Stale ours theirs) = codes "Stale " ++ decimal ours ++ 32 ∷ decimal theirs
 refusal_text (WrongState word) = codes "WrongState " ++ word_text word
+refusal_text (NoPlace last) = codes "NoPlace " ++ decimal last
+refusal_text (Copying chunks) = codes "Copying " ++ decimal chunks
 refusal_text NoContents = codes "NoContents"
+refusal_text (Offline need slots) = codes "Offline " ++ decimal need ++ 32 ∷ decimal slots
+refusal_text (WrongStamp ours theirs) = codes "WrongStamp " ++ decimal ours ++ 32 ∷ decimal theirs
+refusal_text (Differ seg) = codes "Differ " ++ decimal seg
+refusal_text (QueueFull writes blocks) = codes "QueueFull " ++ decimal writes ++ 32 ∷ decimal blocks
 refusal_text (BadRecord field) = codes "BadRecord " ++ decimal field
 refusal_text NoMemory = codes "NoMemory"
 refusal_text Fault = codes "Fault"
