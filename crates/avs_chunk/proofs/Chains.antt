@@ -8,6 +8,7 @@ use Rattle.avs_dev.specs.Seen.{Seen, IsTold, UsesTear}
 use Rattle.avs_flip.specs.Areas.{live_from}
 use Rattle.avs_chunk.specs.States.{Splits, sum_from}
 use Rattle.avs_chunk.specs.ChunkSet.{ChunkSet, disk_of, state_of, disk_state, chunks_of, CanSave}
+use Rattle.avs_dev.proofs.Going.{spared_same, spared_then}
 use Rattle.avs_chunk.specs.Disks.{Disks, AreSameDisks, AreSteady, AreStillArmed, OneUsed, HasCauses, raised}
 use Rattle.avs_chunk.specs.Calls.{disks_of, Stays, KeepsImages, ChangesIn, state_block, to_master, to_shadow, to_bitmap, Saves}
 use Rattle.avs_chunk.proofs.SameDisks.{IsSameDisk-same, IsSameDisk-then, raised-none, raised-then, raised_most, raised_least, Rose-later, cond_is, cond_not}
@@ -51,17 +52,24 @@ used_then d e f same used = record { was_armed = subst (λ (t : Bool). IsTrue t)
 
 pub OneUsed-then : (a b c : Disks) → AreStillArmed a b → OneUsed b c → OneUsed a c
 OneUsed-then a b c armed used = elim used [
-  | inl m ↦ inl (used_then a.master b.master c.master armed.master m.0, m.1 ∙ armed.shadow, m.2 ∙ armed.bitmap)
+  | inl m ↦ inl (used_then a.master b.master c.master armed.master.armed m.0, m.1 ∙ armed.shadow.armed, m.2 ∙ armed.bitmap.armed)
   | inr rest ↦ inr (elim rest [
-    | inl s ↦ inl (used_then a.shadow b.shadow c.shadow armed.shadow s.0, s.1 ∙ armed.master, s.2 ∙ armed.bitmap)
-    | inr m ↦ inr (used_then a.bitmap b.bitmap c.bitmap armed.bitmap m.0, m.1 ∙ armed.master, m.2 ∙ armed.shadow)
+    | inl s ↦ inl (used_then a.shadow b.shadow c.shadow armed.shadow.armed s.0, s.1 ∙ armed.master.armed, s.2 ∙ armed.bitmap.armed)
+    | inr m ↦ inr (used_then a.bitmap b.bitmap c.bitmap armed.bitmap.armed m.0, m.1 ∙ armed.master.armed, m.2 ∙ armed.shadow.armed)
   ])
 ]
+
+pub AreStillArmed-then : (a b c : Disks) → AreStillArmed a b → AreStillArmed b c → AreStillArmed a c
+AreStillArmed-then a b c p q = record {
+  master = spared_then a.master b.master c.master p.master q.master;
+  shadow = spared_then a.shadow b.shadow c.shadow p.shadow q.shadow;
+  bitmap = spared_then a.bitmap b.bitmap c.bitmap p.bitmap q.bitmap;
+}
 
 pub HasCauses-then : {T E : Type 0} (a b c : Disks) (r : Result T E) → AreSameDisks a b → AreStillArmed a b → HasCauses b r c → HasCauses a r c
 HasCauses-then a b c (Ok y) same armed q = record {
   failed = tt;
-  armed = record { master = q.armed.master ∙ armed.master; shadow = q.armed.shadow ∙ armed.shadow; bitmap = q.armed.bitmap ∙ armed.bitmap };
+  armed = AreStillArmed-then a b c armed q.armed;
   used = λ _. tt;
 }
 HasCauses-then a b c (Err e) same armed q = record {
@@ -89,7 +97,7 @@ pub Saves-none : {T E : Type 0} (x : T) (s : ChunkSet) (m : Seen) (a : ℕ) → 
 Saves-none x s m a = record {
   stays = Stays-same s;
   disks = AreSameDisks-same (disks_of s m);
-  causes = record { failed = tt; armed = record { master = refl; shadow = refl; bitmap = refl }; used = λ _. tt };
+  causes = record { failed = tt; armed = record { master = spared_same m; shadow = spared_same (disk_of s.shadow); bitmap = spared_same s.areas.disk }; used = λ _. tt };
   images = λ _ _. record { shadow = refl; master = refl; alike = λ alike. alike };
   stands = stands s m.image;
   split = λ _ _. Splits-none (disk_state s) (chunks_of s) a;
@@ -112,7 +120,7 @@ pub Saves-split : {T E : Type 0} (x : T) (s : ChunkSet) (m : Seen) (c : ℕ) →
 Saves-split x s m c lt is = record {
   stays = Stays-same s;
   disks = AreSameDisks-same (disks_of s m);
-  causes = record { failed = tt; armed = record { master = refl; shadow = refl; bitmap = refl }; used = λ _. tt };
+  causes = record { failed = tt; armed = record { master = spared_same m; shadow = spared_same (disk_of s.shadow); bitmap = spared_same s.areas.disk }; used = λ _. tt };
   images = λ _ _. record { shadow = refl; master = refl; alike = λ alike. alike };
   stands = stands s m.image;
   split = λ known _. Splits-one (disk_state s) (disk_state s) (chunks_of s) c (sym (known.step.each c lt) ∙ is) (λ d _ _. refl);

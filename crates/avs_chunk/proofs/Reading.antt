@@ -5,12 +5,13 @@ use Rattle.avs_seg.specs.Image.{range, blocks_of}
 use Rattle.avs_dev.specs.Seen.{Seen, IsTold, Reads}
 use Rattle.avs_flip.specs.Areas.{live}
 use Rattle.avs_chunk.specs.ChunkSet.{ChunkSet, shadow_by, disk_of, state_of, chunks_of, shadow_image, IsInStep, IsKnown, IsOnePlace}
+use Rattle.avs_dev.proofs.Going.{spared_same, spared_is}
 use Rattle.avs_chunk.specs.Disks.{AreSameDisks, AreStillArmed, HasCauses}
 use Rattle.avs_chunk.specs.Steps.{ReadsOne}
 use Rattle.avs_chunk.specs.Calls.{disks_of, ReadsShadow}
 use Rattle.avs_chunk.proofs.SameDisks.{IsSameDisk-same, IsSameDisk-is, IsSameDisk-faults}
 use Rattle.avs_chunk.proofs.Images.{range_alone, range_there}
-use Rattle.avs_chunk.proofs.Chains.{AreSameDisks-same, AreSameDisks-then, AreSteady-still, HasCauses-then}
+use Rattle.avs_chunk.proofs.Chains.{AreSameDisks-same, AreSameDisks-then, AreSteady-still, AreStillArmed-then, HasCauses-then}
 
 -- what reads that answered Ok leave
 pub record ReadsSoFar (a : ChunkSet) (m : Seen) (b : ChunkSet) (m' : Seen) : Type 0 where
@@ -19,17 +20,14 @@ pub record ReadsSoFar (a : ChunkSet) (m : Seen) (b : ChunkSet) (m' : Seen) : Typ
   pub shadow : disk_of b.shadow ≡ record (disk_of a.shadow) { faults = (disk_of b.shadow).faults }
   pub master : m' ≡ record m { faults = m'.faults }
   pub disks : AreSameDisks (disks_of a m) (disks_of b m')
+  pub spared : AreStillArmed (disks_of a m) (disks_of b m')
 
 pub ReadsSoFar-none : (a : ChunkSet) (m : Seen) → ReadsSoFar a m a m
-ReadsSoFar-none a m = record { rest = refl; there = refl; shadow = refl; master = refl; disks = AreSameDisks-same (disks_of a m) }
+ReadsSoFar-none a m = record { rest = refl; there = refl; shadow = refl; master = refl; disks = AreSameDisks-same (disks_of a m); spared = record { master = spared_same m; shadow = spared_same (disk_of a.shadow); bitmap = spared_same a.areas.disk } }
 
 module _ (a : ChunkSet) (m : Seen) (b : ChunkSet) (m' : Seen) (p : ReadsSoFar a m b m') where
   pub still_armed : AreStillArmed (disks_of a m) (disks_of b m')
-  still_armed = record {
-    master = ap (λ (d : Seen). d.armed) p.master;
-    shadow = ap (λ (d : Seen). d.armed) p.shadow;
-    bitmap = ap (λ (s : ChunkSet). s.areas.disk.armed) p.rest;
-  }
+  still_armed = p.spared
 
   pub same_shown : shadow_image b m'.image ≡ shadow_image a m.image
   same_shown =
@@ -51,6 +49,7 @@ module _ (a : ChunkSet) (m : Seen) (b : ChunkSet) (m' : Seen) (p : ReadsSoFar a 
     shadow = q.shadow ∙ ap (λ (d : Seen). record d { faults = (disk_of s.shadow).faults }) p.shadow;
     master = q.master ∙ ap (λ (d : Seen). record d { faults = m''.faults }) p.master;
     disks = AreSameDisks-then (disks_of a m) (disks_of b m') (disks_of s m'') p.disks q.disks;
+    spared = AreStillArmed-then (disks_of a m) (disks_of b m') (disks_of s m'') p.spared q.causes.armed;
   }
 
   -- a part failed
@@ -105,7 +104,7 @@ module _ (a : ChunkSet) (m m' : Seen) (X : Option Seen) (at : ℕ) (out : List �
   }
     where
       causes : {T E : Type 0} (r : Result T E) → Reads m at out r m' → HasCauses (disks_of a m) r (disks_of after_read m')
-      causes (Ok x) h = record { failed = tt; armed = record { master = ap (λ (d : Seen). d.armed) h.rest; shadow = ap (λ (d : Seen). d.armed) same; bitmap = refl }; used = λ _. tt }
+      causes (Ok x) h = record { failed = tt; armed = record { master = h.goes.done; shadow = spared_is same; bitmap = spared_same a.areas.disk }; used = λ _. tt }
       causes (Err y) h = record { failed = inl h.cause.failed; armed = tt; used = λ steady. absurd (false≢true (h.sure steady.master)) }
 
       shows : {T E : Type 0} (r : Result T E) → IsKnown a → OnOk r (blocks_of out ≡ range m.image at (length out / 512)) → OnOk r (blocks_of out ≡ range (shadow_image a m.image) at (length out / 512))
@@ -125,7 +124,7 @@ module _ (a : ChunkSet) (m m' : Seen) (X : Option Seen) (at : ℕ) (out : List �
   }
     where
       causes : {T E : Type 0} (r : Result T E) → Reads (disk_of a.shadow) at out r (disk_of X) → HasCauses (disks_of a m) r (disks_of after_read m')
-      causes (Ok x) h = record { failed = tt; armed = record { master = ap (λ (d : Seen). d.armed) same; shadow = ap (λ (d : Seen). d.armed) h.rest; bitmap = refl }; used = λ _. tt }
+      causes (Ok x) h = record { failed = tt; armed = record { master = spared_is same; shadow = h.goes.done; bitmap = spared_same a.areas.disk }; used = λ _. tt }
       causes (Err y) h = record { failed = inr (inl h.cause.failed); armed = tt; used = λ steady. absurd (false≢true (h.sure steady.shadow)) }
 
       shows : {T E : Type 0} (r : Result T E) → IsKnown a → OnOk r (blocks_of out ≡ range (disk_of a.shadow).image at (length out / 512)) → OnOk r (blocks_of out ≡ range (shadow_image a m.image) at (length out / 512))

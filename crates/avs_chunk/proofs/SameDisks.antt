@@ -7,7 +7,8 @@ use Rattle.avs_seg.proofs.Bytes.{length-blocks_of}
 use Rattle.avs_seg.proofs.Changes.{ChangesWithin-same}
 use Rattle.avs_seg.proofs.Ranges.{range-put}
 use Rattle.avs_seg.specs.Causes.{Rose}
-use Rattle.avs_dev.specs.Seen.{Seen, IsTold, Reads, Writes, UsesTear}
+use Rattle.avs_dev.specs.Seen.{Seen, IsTold, Reads, Writes, UsesTear, IsSpared}
+use Rattle.avs_dev.proofs.Going.{spared_same}
 use Rattle.avs_dev.specs.Memory.{counted}
 use Rattle.avs_chunk.specs.Disks.{IsSameDisk, raised}
 use Rattle.avs_chunk.specs.ChunkSet.{disk_of}
@@ -97,6 +98,7 @@ CopiesSpan-write {S = S} {F = F} from from' to to' at len out q x r long fits is
       disk = IsSameDisk-writes to to' at out r w;
       failed = wrong r w.cause.failed;
       armed = w.still_armed;
+      spared = both r (subst (λ (p : Result S F). OnOk p (IsSpared from from')) is reads.goes.done) w.goes.done;
       used = λ _ steady. w.spent steady;
       within = λ told. subst (λ (k : ℕ). ChangesWithin at k to.image to'.image) count (w.within told);
       copied = λ told told_to. right r (subst (λ (p : Result S F). OnOk p (blocks_of out ≡ range from.image at (length out / 512))) is (reads.shows told)) (w.done told_to) (omega (arith, told_to)) count;
@@ -117,6 +119,10 @@ CopiesSpan-write {S = S} {F = F} from from' to to' at len out q x r long fits is
         ∙ ap (λ (k : ℕ). range from.image at k) count
     right (Err e) shown done inside count = tt
 
+    both : {T E : Type 0} (r : Result T E) → IsSpared from from' → OnOk r (IsSpared to to') → OnOk r (IsSpared from from' × IsSpared to to')
+    both (Ok y) read written = (read, written)
+    both (Err e) read written = tt
+
     times : {T E : Type 0} (r : Result T E) → OnOk r (to'.written ≡ min (to.written + length out / 512) (2 ^ 64 - 1)) → length out / 512 ≡ len → OnOk r (to'.written ≡ counted to.written len)
     times (Ok y) h count = h ∙ ap (λ (k : ℕ). counted to.written k) count
     times (Err e) h count = tt
@@ -127,8 +133,8 @@ pub record Copy {T E : Type 0} (state at k : ℕ) (r : Result T E) (m s m' s' : 
   pub master : IsSameDisk m m'
   pub shadow : IsSameDisk s s'
   pub failed : OnErr r (Rose m.faults m'.faults ⊎ Rose s.faults s'.faults)
-  pub armed_m : OnOk r (m'.armed ≡ m.armed)
-  pub armed_s : OnOk r (s'.armed ≡ s.armed)
+  pub armed_m : OnOk r (IsSpared m m')
+  pub armed_s : OnOk r (IsSpared s s')
   pub used : IsTrue m.steady → IsTrue s.steady → OnErr r ((UsesTear m m' × (s'.armed ≡ s.armed)) ⊎ (UsesTear s s' × (m'.armed ≡ m.armed)))
   pub m_same : state ≢ 3 → m'.image ≡ m.image
   pub s_same : state ≢ 0 → s'.image ≡ s.image
@@ -153,8 +159,8 @@ Copy-to_shadow at k (Ok x) m s m' s' some c = record {
   master = IsSameDisk-faults m m' c.rest c.later;
   shadow = c.disk;
   failed = tt;
-  armed_m = ap (λ (d : Seen). d.armed) c.rest;
-  armed_s = c.armed;
+  armed_m = c.spared.0;
+  armed_s = c.spared.1;
   used = λ _ _. tt;
   m_same = λ _. ap (λ (d : Seen). d.image) c.rest;
   s_same = λ no. absurd (no refl);
@@ -193,8 +199,8 @@ Copy-to_master at k (Ok x) m s m' s' some c = record {
   master = c.disk;
   shadow = IsSameDisk-faults s s' c.rest c.later;
   failed = tt;
-  armed_m = c.armed;
-  armed_s = ap (λ (d : Seen). d.armed) c.rest;
+  armed_m = c.spared.1;
+  armed_s = c.spared.0;
   used = λ _ _. tt;
   m_same = λ no. absurd (no refl);
   s_same = λ _. ap (λ (d : Seen). d.image) c.rest;
@@ -233,8 +239,8 @@ Copy-nothing state at k (Ok x) m s no_0 no_3 ok = record {
   master = IsSameDisk-same m;
   shadow = IsSameDisk-same s;
   failed = tt;
-  armed_m = refl;
-  armed_s = refl;
+  armed_m = spared_same m;
+  armed_s = spared_same s;
   used = λ _ _. tt;
   m_same = λ _. refl;
   s_same = λ _. refl;

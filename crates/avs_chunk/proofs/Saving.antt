@@ -288,7 +288,7 @@ module _ (old : ChunkSet) (m m' : Seen) (X : Option Seen) (c : ℕ)
           | inr other ↦ inl (p.set.others d other)
         ]);
         disks = record { master = copy.master; shadow = copy.shadow; bitmap = p.disk };
-        causes = record { failed = tt; armed = record { master = done_q _ copy.armed_m; shadow = done_q _ copy.armed_s; bitmap = p.armed }; used = λ _. tt };
+        causes = record { failed = tt; armed = record { master = done_q _ copy.armed_m; shadow = done_q _ copy.armed_s; bitmap = p.spared }; used = λ _. tt };
         images = λ known told. put_keeps known told (inr (p.done known.bitmap));
         stands = stands _ _;
         split = λ known _. put_split known (p.done known.bitmap);
@@ -324,7 +324,7 @@ module _ (old : ChunkSet) (m m' : Seen) (X : Option Seen) (c : ℕ)
       Saves-put (Err e) p = record {
         stays = put_stays (Err e) p p.failed (λ d. inl (ap (λ (l : List ℕ). state_in l d) p.unset));
         disks = record { master = copy.master; shadow = copy.shadow; bitmap = p.disk };
-        causes = record { failed = inr (inr p.cause.failed); armed = tt; used = λ steady. inr (inr (p.used steady.bitmap, done_q _ copy.armed_m, done_q _ copy.armed_s)) };
+        causes = record { failed = inr (inr p.cause.failed); armed = tt; used = λ steady. inr (inr (p.used steady.bitmap, (done_q _ copy.armed_m).armed, (done_q _ copy.armed_s).armed)) };
         images = λ known told. put_keeps known told (p.failed known.bitmap);
         stands = stands _ _;
         split = λ _ _. tt;

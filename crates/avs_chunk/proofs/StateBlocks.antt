@@ -30,6 +30,7 @@ module _ (old new : Areas) (memory block start : List ℕ) (c s : ℕ) (inside :
     disk = record { size = p.writes.size; steady = p.writes.steady; told = p.told; later = p.cause.later };
     cause = record { later = p.cause.later; failed = tt };
     armed = p.writes.still_armed;
+    spared = p.writes.goes.done;
     used = λ _. tt;
     counted = p.writes.counted ∙ ap (λ (n : ℕ). counted old.disk.written n) (ap (λ (n : ℕ). n / 512) one);
     uncounted = tt;
@@ -51,6 +52,7 @@ module _ (old new : Areas) (memory block start : List ℕ) (c s : ℕ) (inside :
     disk = record { size = p.writes.size; steady = p.writes.steady; told = p.told; later = p.cause.later };
     cause = record { later = p.cause.later; failed = p.cause.failed };
     armed = tt;
+    spared = tt;
     used = p.writes.spent;
     counted = tt;
     uncounted = p.writes.uncounted;

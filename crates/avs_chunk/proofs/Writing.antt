@@ -8,6 +8,7 @@ use Rattle.avs_dev.specs.Seen.{Seen, IsTold, Writes}
 use Rattle.avs_flip.specs.Areas.{live}
 use Rattle.avs_chunk.specs.States.{Splits, SplitsFirst, state_on}
 use Rattle.avs_chunk.specs.ChunkSet.{ChunkSet, shadow_by, disk_of, disk_state, chunks_of, shadow_image, master_image, IsAlike, IsKnown}
+use Rattle.avs_dev.proofs.Going.{spared_same}
 use Rattle.avs_chunk.specs.Disks.{AreSameDisks, HasCauses, raised}
 use Rattle.avs_chunk.specs.Calls.{disks_of, Stays, ChangesRange, chunks_end, to_master, to_shadow, to_bitmap, Saves, WritesShadow}
 use Rattle.avs_chunk.proofs.SameDisks.{IsSameDisk-same, IsSameDisk-writes, raised-some, raised-then, raised_most, raised_least}
@@ -64,7 +65,7 @@ module _ (a b : ChunkSet) (m m' : Seen) (at : ℕ) (bytes : List ℕ) (some : 0 
     there_disks r w = record { master = IsSameDisk-same m'; shadow = IsSameDisk-writes (disk_of b.shadow) (disk_of X) at bytes r w; bitmap = IsSameDisk-same b.areas.disk }
 
     there_causes : {T E : Type 0} (r : Result T E) → Writes (disk_of b.shadow) at bytes r (disk_of X) → HasCauses (disks_of b m') r (disks_of written m')
-    there_causes (Ok y) w = record { failed = tt; armed = record { master = refl; shadow = w.still_armed; bitmap = refl }; used = λ _. tt }
+    there_causes (Ok y) w = record { failed = tt; armed = record { master = spared_same m'; shadow = w.goes.done; bitmap = spared_same b.areas.disk }; used = λ _. tt }
     there_causes (Err y) w = record { failed = inr (inl w.cause.failed); armed = tt; used = λ steady. inr (inl (w.spent steady.shadow, refl, refl)) }
 
     there_stays : Stays a written

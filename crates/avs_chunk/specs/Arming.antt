@@ -1,7 +1,8 @@
 -- The disks that are there, by number.
 use Rattle.std.specs.Prelude.{◌≡◌, ℕ, Bool, true, false, not, IsTrue, Option, None, Some, is_some, slice_get, slice_set}
 use Rattle.std.specs.Option.{option_map}
-use Rattle.avs_dev.specs.Seen.{Seen}
+use Rattle.avs_dev.specs.Seen.{Seen, with_tear}
+use Rattle.avs_dev.specs.declared.disk.Tear.{Tear}
 use Rattle.avs_chunk.specs.ChunkSet.{ChunkSet, disks_there}
 
 -- the blocks written on a disk
@@ -13,10 +14,10 @@ abbrev pub lets_arm : Option Seen → Bool
 lets_arm None = false
 lets_arm (Some d) = d.arms
 
--- a tear is armed exactly on a disk that is there and lets one be armed; where none is, nothing changes
-pub record ArmsOne (old : ChunkSet) (disk : ℕ) (result : Bool) (new : ChunkSet) : Type 0 where
+-- exactly this tear is armed, exactly on a disk that is there and lets one be armed; where none is, nothing changes
+pub record ArmsOne (old : ChunkSet) (disk : ℕ) (tear : Tear) (result : Bool) (new : ChunkSet) : Type 0 where
   pub answer : result ≡ lets_arm (slice_get (disks_there old) disk)
-  pub armed : IsTrue result → (d : Seen) → slice_get (disks_there old) disk ≡ Some d → disks_there new ≡ slice_set (disks_there old) disk (record d { armed = true })
+  pub armed : IsTrue result → (d : Seen) → slice_get (disks_there old) disk ≡ Some d → disks_there new ≡ slice_set (disks_there old) disk (with_tear tear d)
   pub rest : new ≡ record old { shadow = new.shadow; areas = record old.areas { disk = new.areas.disk } }
   pub blocks : new.blocks ≡ old.blocks
   pub still_there : is_some new.shadow ≡ is_some old.shadow

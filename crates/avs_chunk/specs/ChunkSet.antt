@@ -22,7 +22,7 @@ pub record ChunkSet : Type 0 where
 
 -- a disk that is not there: it has no block and never fails
 abbrev pub absent : Seen
-absent = record { image = []; size = 0; faults = 0; written = 0; steady = true; armed = false; arms = false }
+absent = record { image = []; size = 0; faults = 0; written = 0; steady = true; armed = false; tear = None; arms = false }
 
 -- the disk, where it is there
 abbrev pub disk_of : Option Seen → Seen

@@ -1,7 +1,7 @@
 -- The three disks that a call works on, and what it makes of each.
 use Rattle.std.specs.Prelude.{◌≡◌, ◌⊎◌, ℕ, ◌+◌, ◌-◌, ◌^◌, ◌≤◌, ◌==◌, min, if◌then◌else◌, IsTrue, Result, OnOk, OnErr}
 use Rattle.avs_seg.specs.Causes.{Rose}
-use Rattle.avs_dev.specs.Seen.{Seen, IsTold, UsesTear}
+use Rattle.avs_dev.specs.Seen.{Seen, IsTold, UsesTear, IsSpared}
 use Rattle.avs_dev.specs.Memory.{counted}
 
 -- the master's disk, the shadow's and the bitmap's
@@ -28,11 +28,11 @@ pub record AreSteady (d : Disks) : Type 0 where
   pub shadow : IsTrue d.shadow.steady
   pub bitmap : IsTrue d.bitmap.steady
 
--- the tears that were armed are armed
+-- none has failed, and the tears that were armed are armed
 pub record AreStillArmed (old new : Disks) : Type 0 where
-  pub master : new.master.armed ≡ old.master.armed
-  pub shadow : new.shadow.armed ≡ old.shadow.armed
-  pub bitmap : new.bitmap.armed ≡ old.bitmap.armed
+  pub master : IsSpared old.master new.master
+  pub shadow : IsSpared old.shadow new.shadow
+  pub bitmap : IsSpared old.bitmap new.bitmap
 
 -- the tear of one of them is used, and those of the others are not
 abbrev pub OneUsed : Disks → Disks → Type 0
@@ -41,7 +41,7 @@ OneUsed old new =
     ⊎ ((UsesTear old.shadow new.shadow × (new.master.armed ≡ old.master.armed) × (new.bitmap.armed ≡ old.bitmap.armed))
     ⊎ (UsesTear old.bitmap new.bitmap × (new.master.armed ≡ old.master.armed) × (new.shadow.armed ≡ old.shadow.armed)))
 
--- an error comes only where the faults of one of them rose, over steady disks only where a tear of one is used
+-- an error comes exactly where the faults of one of them rose, over steady disks only where a tear of one is used
 pub record HasCauses {T E : Type 0} (old : Disks) (result : Result T E) (new : Disks) : Type 0 where
   pub failed : OnErr result (Rose old.master.faults new.master.faults ⊎ (Rose old.shadow.faults new.shadow.faults ⊎ Rose old.bitmap.faults new.bitmap.faults))
   pub armed : OnOk result (AreStillArmed old new)

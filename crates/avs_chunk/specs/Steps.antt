@@ -2,7 +2,7 @@
 use Rattle.std.specs.Prelude.{◌≡◌, ◌≢◌, ◌⊎◌, ℕ, ◌+◌, ◌/◌, ◌≤◌, Bool, not, IsTrue, List, length, Result, OnOk, OnErr, IsOk}
 use Rattle.avs_seg.specs.Image.{Image, range, ChangesWithin}
 use Rattle.avs_seg.specs.Causes.{HasCause, Rose}
-use Rattle.avs_dev.specs.Seen.{Seen, IsTold, UsesTear, Reads}
+use Rattle.avs_dev.specs.Seen.{Seen, IsTold, UsesTear, IsSpared, Reads}
 use Rattle.avs_dev.specs.Memory.{counted}
 use Rattle.avs_flip.specs.Areas.{Areas, live, staged, live_from}
 use Rattle.avs_chunk.specs.States.{on_master, on_shadow, state_in, state_on}
@@ -15,6 +15,7 @@ pub record CopiesSpan {T E : Type 0} (from to : Seen) (at len : ℕ) (result : R
   pub disk : IsSameDisk to to_new
   pub failed : OnErr result (Rose from.faults from_new.faults ⊎ Rose to.faults to_new.faults)
   pub armed : OnOk result (to_new.armed ≡ to.armed)
+  pub spared : OnOk result (IsSpared from from_new × IsSpared to to_new)
   pub used : IsTrue from.steady → IsTrue to.steady → OnErr result (UsesTear to to_new)
   pub within : IsTold to → ChangesWithin at len to.image to_new.image
   pub copied : IsTold from → IsTold to → OnOk result (range to_new.image at len ≡ range from.image at len)
@@ -51,6 +52,7 @@ pub record PutsState {T E : Type 0} (old : Areas) (memory : List ℕ) (chunk sta
   pub disk : IsSameDisk old.disk new.disk
   pub cause : HasCause old.disk.faults new.disk.faults result
   pub armed : OnOk result (new.disk.armed ≡ old.disk.armed)
+  pub spared : OnOk result (IsSpared old.disk new.disk)
   pub used : IsTrue old.disk.steady → OnErr result (UsesTear old.disk new.disk)
   pub counted : OnOk result (new.disk.written ≡ counted old.disk.written 1)
   pub uncounted : OnErr result (new.disk.written ≡ old.disk.written)

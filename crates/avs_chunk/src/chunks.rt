@@ -311,7 +311,7 @@ impl<D: Disk> Chunks<D> {
     pub fn arm(&mut self, disk: u32, tear: Tear) -> bool
     where
         D: Arm,
-        ensures { ArmsOne self.old disk result self.new }
+        ensures { ArmsOne self.old disk tear result self.new }
     {
         match &mut self.shadow {
             Some(shadow) if disk == 0 => shadow.arm(tear),

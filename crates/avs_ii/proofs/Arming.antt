@@ -5,7 +5,8 @@ use Rattle.std.specs.List.{flat_map}
 use Rattle.std.proofs.Math.Seq.{map-set_same}
 use Rattle.std.proofs.lemmas.List.{set-append_right, append-nil, set-get_or, get_or-map, map-set, length-map, set-append_left, get_or_append_left}
 use Rattle.std.proofs.lemmas.Option.{same_Some, slice_get-get_or}
-use Rattle.avs_dev.specs.Seen.{Seen, Arms}
+use Rattle.avs_dev.specs.Seen.{Seen, Arms, with_tear}
+use Rattle.avs_dev.specs.declared.disk.Tear.{Tear}
 use Rattle.avs_code.specs.declared.group_blocks.GroupBlock.{GroupBlock}
 use Rattle.avs_chunk.specs.ChunkSet.{ChunkSet, disk_of, disks_there}
 use Rattle.avs_chunk.specs.Arming as chunk
@@ -89,8 +90,8 @@ module _ {A D : Type 0} (seen : A → Seen) (state : Seen) (block : GroupBlock) 
 -- ---- a tear is armed
 
 -- a disk is as it was, but for the tear on it
-same_armed : (d d' : Seen) (result : Bool) → Arms d result d' → no_tear d' ≡ no_tear d
-same_armed d d' result arms = go result refl
+same_armed : (d d' : Seen) (tear : Tear) (result : Bool) → Arms d tear result d' → no_tear d' ≡ no_tear d
+same_armed d d' tear result arms = go result refl
   where
     go : (b : Bool) → result ≡ b → no_tear d' ≡ no_tear d
     go true e = ap no_tear (arms.armed (subst (λ (x : Bool). IsTrue x) (sym e) refl))
@@ -117,7 +118,7 @@ arms_at o = option_map_or (λ (d : Seen). d.arms) o false
 sure_by : (o : Option Seen) (m : Seen) → o ≡ Some m → (result : Bool) → (IsTrue m.steady → IsTrue result) → (d : Seen) → o ≡ Some d → IsTrue d.steady → IsTrue result
 sure_by o m is result sure d got steady = sure (subst (λ (x : Seen). IsTrue x.steady) (same_Some d m (sym got ∙ is)) steady)
 
-module _ (state : Seen) (block : GroupBlock) (V : List Seen) (sets : List HeldSet) (disk place : ℕ) (is : disk ≡ suc place) (m m' : Seen) (at : m ≡ slice_index_or V place m) (lt : place < length V) (result : Bool) (arms : Arms m result m') where
+module _ (state : Seen) (block : GroupBlock) (V : List Seen) (sets : List HeldSet) (disk place : ℕ) (is : disk ≡ suc place) (m m' : Seen) (at : m ≡ slice_index_or V place m) (lt : place < length V) (tear : Tear) (result : Bool) (arms : Arms m tear result m') where
   abbrev a : IiDisks
   a = as_group state block V sets
 
@@ -146,7 +147,7 @@ module _ (state : Seen) (block : GroupBlock) (V : List Seen) (sets : List HeldSe
   disks_now = ap (λ (l : List Seen). state ∷ l) (sym (set-append_left V (others sets) place m' lt)) ∙ ap (λ (k : ℕ). set (disks_of a) k m') (sym is)
 
   quiet_m : quiet m' ≡ quiet m
-  quiet_m = ap quiet (same_armed m m' result arms)
+  quiet_m = ap quiet (same_armed m m' tear result arms)
 
   pub size_m' : m'.size ≡ m.size
   size_m' = ap (λ (d : Seen). d.size) quiet_m
@@ -157,12 +158,12 @@ module _ (state : Seen) (block : GroupBlock) (V : List Seen) (sets : List HeldSe
   arms_shape : shape_of a' ≡ shape_of a
   arms_shape = λ i. record { state = disk_shape state; volumes = shapes_at V place m m' at (keeps_quiet m m' quiet_m) i; sets = map set_shape sets }
 
-  pub volume_arms : length sets ≤ 1 → (meaning a' ≡ meaning a) → (IsTrue m.steady → IsTrue result) → ArmsGroup a disk result a'
+  pub volume_arms : length sets ≤ 1 → (meaning a' ≡ meaning a) → (IsTrue m.steady → IsTrue result) → ArmsGroup a disk tear result a'
   volume_arms one group sure = record {
     answer = arms.answer ∙ ap arms_at (sym got);
-    armed = λ so. disks_now ∙ ap (λ (d : Seen). set (disks_of a) disk d) (arms.armed so ∙ ap (λ (d : Seen). record d { armed = true }) (sym there));
+    armed = λ so. disks_now ∙ ap (λ (d : Seen). set (disks_of a) disk d) (arms.armed so ∙ ap (λ (d : Seen). with_tear tear d) (sym there));
     unarmed = λ not_so. ap (λ (l : List Seen). as_group state block l sets) (ap (λ (d : Seen). set V place d) (arms.unarmed not_so ∙ at ∙ same_own V place m lt) ∙ set-get_or V place state);
-    rest = ap (λ (l : List Seen). record (on_each no_tear a) { volumes = l }) (map-set_same no_tear V place m' m (same_armed m m' result arms ∙ ap no_tear at));
+    rest = ap (λ (l : List Seen). record (on_each no_tear a) { volumes = l }) (map-set_same no_tear V place m' m (same_armed m m' tear result arms ∙ ap no_tear at));
     block = refl;
     group = group;
     shape = arms_shape;
@@ -180,23 +181,23 @@ module _ (state : Seen) (block : GroupBlock) (V : List Seen) (sets : List HeldSe
       same_own (x ∷ l) zero d lt = refl
       same_own (x ∷ l) (suc i) d lt = same_own l i d (omega (arith, lt))
 
-pub arms_none : (state : Seen) (block : GroupBlock) (V : List Seen) (disk place : ℕ) → disk ≡ suc place → (m m' : Seen) → m ≡ slice_index_or V place m → place < length V → (result : Bool) → Arms m result m' → (IsTrue m.steady → IsTrue result) → ArmsGroup (as_group state block V []) disk result (as_group state block (set V place m') [])
-arms_none state block V disk place is m m' at lt result arms sure =
-    volume_arms state block V [] disk place is m m' at lt result arms (omega arith)
-    (let b = kept_on state in sym (group_quiet_none b.slots b.note (set V place m')) ∙ ap (λ (l : List Seen). group_by b.slots b.note l []) (volumes_quiet state block V [] disk place is m m' at lt result arms) ∙ group_quiet_none b.slots b.note V) sure
+pub arms_none : (state : Seen) (block : GroupBlock) (V : List Seen) (disk place : ℕ) → disk ≡ suc place → (m m' : Seen) → m ≡ slice_index_or V place m → place < length V → (tear : Tear) (result : Bool) → Arms m tear result m' → (IsTrue m.steady → IsTrue result) → ArmsGroup (as_group state block V []) disk tear result (as_group state block (set V place m') [])
+arms_none state block V disk place is m m' at lt tear result arms sure =
+    volume_arms state block V [] disk place is m m' at lt tear result arms (omega arith)
+    (let b = kept_on state in sym (group_quiet_none b.slots b.note (set V place m')) ∙ ap (λ (l : List Seen). group_by b.slots b.note l []) (volumes_quiet state block V [] disk place is m m' at lt tear result arms) ∙ group_quiet_none b.slots b.note V) sure
 
-pub arms_one : (state : Seen) (block : GroupBlock) (V : List Seen) (h : HeldSet) (disk place : ℕ) → disk ≡ suc place → (m m' : Seen) → m ≡ slice_index_or V place m → place < length V → (result : Bool) → Arms m result m' → (IsTrue m.steady → IsTrue result) → ArmsGroup (as_group state block V (h ∷ [])) disk result (as_group state block (set V place m') (h ∷ []))
-arms_one state block V h disk place is m m' at lt result arms sure =
-    volume_arms state block V (h ∷ []) disk place is m m' at lt result arms (omega arith)
-    (let b = kept_on state in sym (group_quiet b.slots b.note (set V place m') h) ∙ ap (λ (l : List Seen). group_by b.slots b.note l (quiet_set h ∷ [])) (volumes_quiet state block V (h ∷ []) disk place is m m' at lt result arms) ∙ group_quiet b.slots b.note V h) sure
+pub arms_one : (state : Seen) (block : GroupBlock) (V : List Seen) (h : HeldSet) (disk place : ℕ) → disk ≡ suc place → (m m' : Seen) → m ≡ slice_index_or V place m → place < length V → (tear : Tear) (result : Bool) → Arms m tear result m' → (IsTrue m.steady → IsTrue result) → ArmsGroup (as_group state block V (h ∷ [])) disk tear result (as_group state block (set V place m') (h ∷ []))
+arms_one state block V h disk place is m m' at lt tear result arms sure =
+    volume_arms state block V (h ∷ []) disk place is m m' at lt tear result arms (omega arith)
+    (let b = kept_on state in sym (group_quiet b.slots b.note (set V place m') h) ∙ ap (λ (l : List Seen). group_by b.slots b.note l (quiet_set h ∷ [])) (volumes_quiet state block V (h ∷ []) disk place is m m' at lt tear result arms) ∙ group_quiet b.slots b.note V h) sure
 
 -- the state disk
-state_arms : (state state' : Seen) (block : GroupBlock) (V : List Seen) (sets : List HeldSet) (result : Bool) → Arms state result state' → (IsTrue state.steady → IsTrue result) → ArmsGroup (as_group state block V sets) 0 result (as_group state' block V sets)
-state_arms state state' block V sets result arms sure = record {
+state_arms : (state state' : Seen) (block : GroupBlock) (V : List Seen) (sets : List HeldSet) (tear : Tear) (result : Bool) → Arms state tear result state' → (IsTrue state.steady → IsTrue result) → ArmsGroup (as_group state block V sets) 0 tear result (as_group state' block V sets)
+state_arms state state' block V sets tear result arms sure = record {
   answer = arms.answer;
   armed = λ so. ap (λ (d : Seen). d ∷ V ++ others sets) (arms.armed so);
   unarmed = λ not_so. ap (λ (d : Seen). as_group d block V sets) (arms.unarmed not_so);
-  rest = ap (λ (d : Seen). record (on_each no_tear (as_group state block V sets)) { state = d }) (same_armed state state' result arms);
+  rest = ap (λ (d : Seen). record (on_each no_tear (as_group state block V sets)) { state = d }) (same_armed state state' tear result arms);
   block = refl;
   group = ap (λ (d : Seen). meaning (as_group d block V sets)) same;
   shape = shape;
@@ -207,7 +208,7 @@ state_arms state state' block V sets result arms sure = record {
 }
   where
     same : quiet state' ≡ quiet state
-    same = ap quiet (same_armed state state' result arms)
+    same = ap quiet (same_armed state state' tear result arms)
 
     holds : HoldsBlock state block → HoldsBlock state' block
     holds h =
@@ -217,14 +218,14 @@ state_arms state state' block V sets result arms sure = record {
     shape : shape_of (as_group state' block V sets) ≡ shape_of (as_group state block V sets)
     shape = λ i. record { state = (keeps_quiet state state' same).shape i; volumes = map disk_shape V; sets = map set_shape sets }
 
-pub state_arms_as : (disk : ℕ) → disk ≡ 0 → (g : IiDisks) (state state' : Seen) (block : GroupBlock) (V : List Seen) (sets : List HeldSet) → as_group state block V sets ≡ g → (result : Bool) → Arms state result state' → (IsTrue state.steady → IsTrue result) → ArmsGroup g disk result (as_group state' block V sets)
-state_arms_as disk is g state state' block V sets view result arms sure =
-    subst (λ (x : IiDisks). ArmsGroup x disk result (as_group state' block V sets)) view
-    (subst (λ (k : ℕ). ArmsGroup (as_group state block V sets) k result (as_group state' block V sets)) (sym is) (state_arms state state' block V sets result arms sure))
+pub state_arms_as : (disk : ℕ) → disk ≡ 0 → (g : IiDisks) (state state' : Seen) (block : GroupBlock) (V : List Seen) (sets : List HeldSet) → as_group state block V sets ≡ g → (tear : Tear) (result : Bool) → Arms state tear result state' → (IsTrue state.steady → IsTrue result) → ArmsGroup g disk tear result (as_group state' block V sets)
+state_arms_as disk is g state state' block V sets view tear result arms sure =
+    subst (λ (x : IiDisks). ArmsGroup x disk tear result (as_group state' block V sets)) view
+    (subst (λ (k : ℕ). ArmsGroup (as_group state block V sets) k tear result (as_group state' block V sets)) (sym is) (state_arms state state' block V sets tear result arms sure))
 
 -- no disk has that number
-pub arms_nothing : (x : IiDisks) (disk : ℕ) → slice_get (disks_of x) disk ≡ None → ArmsGroup x disk false x
-arms_nothing x disk none = record {
+pub arms_nothing : (x : IiDisks) (disk : ℕ) (tear : Tear) → slice_get (disks_of x) disk ≡ None → ArmsGroup x disk tear false x
+arms_nothing x disk tear none = record {
   answer = ap arms_at (sym none);
   armed = λ so. cc;
   unarmed = λ so. refl;
@@ -247,14 +248,14 @@ tail_same : (x y : Seen) (l m : List Seen) → x ∷ l ≡ y ∷ m → l ≡ m
 tail_same x y l m e = ap (λ (k : List Seen). drop 1 k) e
 
 -- a pair of disks, of which one is armed
-pair_armed : (s b s' b' d : Seen) (k : ℕ) → slice_get (s ∷ b ∷ []) k ≡ Some d → s' ∷ b' ∷ [] ≡ set (s ∷ b ∷ []) k (record d { armed = true }) → (no_tear s' ≡ no_tear s) × (no_tear b' ≡ no_tear b)
-pair_armed s b s' b' d zero got now =
+pair_armed : (tear : Tear) (s b s' b' d : Seen) (k : ℕ) → slice_get (s ∷ b ∷ []) k ≡ Some d → s' ∷ b' ∷ [] ≡ set (s ∷ b ∷ []) k (with_tear tear d) → (no_tear s' ≡ no_tear s) × (no_tear b' ≡ no_tear b)
+pair_armed tear s b s' b' d zero got now =
     let is : s ≡ d = ap (λ (o : Option Seen). option_map_or (λ (x : Seen). x) o s) got in
-    (ap no_tear (head_same s' (record d { armed = true }) (b' ∷ []) (b ∷ []) now) ∙ ap no_tear (sym is), ap no_tear (head_same b' b [] [] (tail_same s' (record d { armed = true }) (b' ∷ []) (b ∷ []) now)))
-pair_armed s b s' b' d (suc zero) got now =
+    (ap no_tear (head_same s' (with_tear tear d) (b' ∷ []) (b ∷ []) now) ∙ ap no_tear (sym is), ap no_tear (head_same b' b [] [] (tail_same s' (with_tear tear d) (b' ∷ []) (b ∷ []) now)))
+pair_armed tear s b s' b' d (suc zero) got now =
     let is : b ≡ d = ap (λ (o : Option Seen). option_map_or (λ (x : Seen). x) o b) got in
-    (ap no_tear (head_same s' s (b' ∷ []) (record d { armed = true } ∷ []) now), ap no_tear (head_same b' (record d { armed = true }) [] [] (tail_same s' s (b' ∷ []) (record d { armed = true } ∷ []) now)) ∙ ap no_tear (sym is))
-pair_armed s b s' b' d (suc (suc k)) got now = cc
+    (ap no_tear (head_same s' s (b' ∷ []) (with_tear tear d ∷ []) now), ap no_tear (head_same b' (with_tear tear d) [] [] (tail_same s' s (b' ∷ []) (with_tear tear d ∷ []) now)) ∙ ap no_tear (sym is))
+pair_armed tear s b s' b' d (suc (suc k)) got now = cc
 
 option_same : (f : Seen → Seen) (o o' : Option Seen) → IsTrue (is_some o) → IsTrue (is_some o') → f (disk_of o') ≡ f (disk_of o) → option_map f o' ≡ option_map f o
 option_same f None o' t t' e = cc
@@ -266,7 +267,7 @@ get_there [] i d e got = cc
 get_there (x ∷ l) zero d e got = ap (λ (o : Option Seen). option_map_or (λ (y : Seen). y) o x) got
 get_there (x ∷ l) (suc i) d e got = get_there l i d e got
 
-module _ (state : Seen) (block : GroupBlock) (V : List Seen) (h : HeldSet) (disk place : ℕ) (is : disk ≡ suc place) (k : ℕ) (at : place ≡ length V + k) (there : IsTrue (is_some h.chunks.shadow)) (c' : ChunkSet) (result : Bool) (arms : chunk.ArmsOne h.chunks k result c') where
+module _ (state : Seen) (block : GroupBlock) (V : List Seen) (h : HeldSet) (disk place : ℕ) (is : disk ≡ suc place) (k : ℕ) (at : place ≡ length V + k) (there : IsTrue (is_some h.chunks.shadow)) (c' : ChunkSet) (tear : Tear) (result : Bool) (arms : chunk.ArmsOne h.chunks k tear result c') where
   abbrev s : IiDisks
   s = as_group state block V (h ∷ [])
 
@@ -291,7 +292,7 @@ module _ (state : Seen) (block : GroupBlock) (V : List Seen) (h : HeldSet) (disk
       go None e = cc
       go (Some d) e = (d, refl)
 
-  now : result ≡ true → (d : Seen) → slice_get (disks_there h.chunks) k ≡ Some d → disks_there c' ≡ set (disks_there h.chunks) k (record d { armed = true })
+  now : result ≡ true → (d : Seen) → slice_get (disks_there h.chunks) k ≡ Some d → disks_there c' ≡ set (disks_there h.chunks) k (with_tear tear d)
   now so d got = arms.armed (subst (λ (b : Bool). IsTrue b) (sym so) refl) d got
 
   tear_two : (result ≡ true) → (no_tear (disk_of c'.shadow) ≡ no_tear (disk_of h.chunks.shadow)) × (no_tear c'.areas.disk ≡ no_tear h.chunks.areas.disk)
@@ -299,9 +300,9 @@ module _ (state : Seen) (block : GroupBlock) (V : List Seen) (h : HeldSet) (disk
       let found = some_disk so in
       let d = found.0 in
       let two = disks_two h.chunks there in
-      pair_armed (disk_of h.chunks.shadow) h.chunks.areas.disk (disk_of c'.shadow) c'.areas.disk d k
+      pair_armed tear (disk_of h.chunks.shadow) h.chunks.areas.disk (disk_of c'.shadow) c'.areas.disk d k
       (ap (λ (l : List Seen). slice_get l k) (sym two) ∙ found.1)
-      (sym (disks_two c' there_after) ∙ now so d found.1 ∙ ap (λ (l : List Seen). set l k (record d { armed = true })) two)
+      (sym (disks_two c' there_after) ∙ now so d found.1 ∙ ap (λ (l : List Seen). set l k (with_tear tear d)) two)
 
   tear_both : (no_tear (disk_of c'.shadow) ≡ no_tear (disk_of h.chunks.shadow)) × (no_tear c'.areas.disk ≡ no_tear h.chunks.areas.disk)
   tear_both = go result refl
@@ -325,7 +326,7 @@ module _ (state : Seen) (block : GroupBlock) (V : List Seen) (h : HeldSet) (disk
   set_shape_same : shape_of s' ≡ shape_of s
   set_shape_same = λ i. record { state = disk_shape state; volumes = map disk_shape V; sets = keeps_shape h c' keeps_armed i ∷ [] }
 
-  pub set_arms : ArmsGroup s disk result s'
+  pub set_arms : ArmsGroup s disk tear result s'
   set_arms = record {
     answer = arms.answer ∙ answer_as (slice_get (disks_there h.chunks) k) ∙ ap arms_at (sym own_disk);
     armed = λ so. armed (is_true result so);
@@ -350,16 +351,16 @@ module _ (state : Seen) (block : GroupBlock) (V : List Seen) (h : HeldSet) (disk
       minus : place - length V ≡ k
       minus = omega (arith, at)
 
-      armed : result ≡ true → disks_of s' ≡ set (disks_of s) disk (record (slice_index_or (disks_of s) disk state) { armed = true })
+      armed : result ≡ true → disks_of s' ≡ set (disks_of s) disk (with_tear tear (slice_index_or (disks_of s) disk state))
       armed so =
           let found = some_disk so in
           let d = found.0 in
           let old : slice_index_or (disks_of s) disk state ≡ d = get_there (disks_of s) disk d state (own_disk ∙ found.1) in
-          ap (λ (l : List Seen). state ∷ V ++ l) (append-nil (disks_there c') ∙ now so d found.1 ∙ ap (λ (l : List Seen). set l k (record d { armed = true })) (sym (append-nil (disks_there h.chunks))))
-          ∙ ap (λ (n : ℕ). state ∷ V ++ set (disks_there h.chunks ++ []) n (record d { armed = true })) (sym minus)
-          ∙ ap (λ (l : List Seen). state ∷ l) (sym (set-append_right V (disks_there h.chunks ++ []) (length V) place (record d { armed = true }) refl (omega (arith, at))))
-          ∙ ap (λ (n : ℕ). set (disks_of s) n (record d { armed = true })) (sym is)
-          ∙ ap (λ (x : Seen). set (disks_of s) disk (record x { armed = true })) (sym old)
+          ap (λ (l : List Seen). state ∷ V ++ l) (append-nil (disks_there c') ∙ now so d found.1 ∙ ap (λ (l : List Seen). set l k (with_tear tear d)) (sym (append-nil (disks_there h.chunks))))
+          ∙ ap (λ (n : ℕ). state ∷ V ++ set (disks_there h.chunks ++ []) n (with_tear tear d)) (sym minus)
+          ∙ ap (λ (l : List Seen). state ∷ l) (sym (set-append_right V (disks_there h.chunks ++ []) (length V) place (with_tear tear d) refl (omega (arith, at))))
+          ∙ ap (λ (n : ℕ). set (disks_of s) n (with_tear tear d)) (sym is)
+          ∙ ap (λ (x : Seen). set (disks_of s) disk (with_tear tear x)) (sym old)
 
   pub set_arms_kept : IsKept state block V (h ∷ []) → IsKept state block V (record h { chunks = c' } ∷ [])
   set_arms_kept kept = keeps_group state block V V h c' keeps_armed refl (settled_same h c' arms.rest (at_one (IsHeld block.slots V) h kept.held).settled) kept
@@ -367,10 +368,10 @@ module _ (state : Seen) (block : GroupBlock) (V : List Seen) (h : HeldSet) (disk
 -- ---- the same of disks of any type
 
 module _ {A D : Type 0} (seen : A → Seen) (state : Seen) (block : GroupBlock) (items : List A) (o : Option (Held D)) (g : IiDisks) (view : as_group state block (map seen items) (sets_of o) ≡ g) (kept : IsKept state block (map seen items) (sets_of o)) (disk place : ℕ) (is : disk ≡ suc place) where
-  pub volume_arms_as : (was new : A) → was ≡ slice_index_or items place was → place < length items → (result : Bool) → Arms (seen was) result (seen new) → (IsTrue (seen was).steady → IsTrue result) → ArmsGroup g disk result (as_group state block (map seen (set items place new)) (sets_of o))
-  volume_arms_as was new value lt result arms sure =
-      subst (λ (x : IiDisks). ArmsGroup x disk result (as_group state block (map seen (set items place new)) (sets_of o))) view
-      (subst (λ (l : List Seen). ArmsGroup (as_group state block (map seen items) (sets_of o)) disk result (as_group state block l (sets_of o))) (sym (map-set seen items place new)) (go o))
+  pub volume_arms_as : (was new : A) → was ≡ slice_index_or items place was → place < length items → (tear : Tear) (result : Bool) → Arms (seen was) tear result (seen new) → (IsTrue (seen was).steady → IsTrue result) → ArmsGroup g disk tear result (as_group state block (map seen (set items place new)) (sets_of o))
+  volume_arms_as was new value lt tear result arms sure =
+      subst (λ (x : IiDisks). ArmsGroup x disk tear result (as_group state block (map seen (set items place new)) (sets_of o))) view
+      (subst (λ (l : List Seen). ArmsGroup (as_group state block (map seen items) (sets_of o)) disk tear result (as_group state block l (sets_of o))) (sym (map-set seen items place new)) (go o))
     where
       at : seen was ≡ slice_index_or (map seen items) place (seen was)
       at = ap seen value ∙ sym (get_or-map seen items place was (seen was) lt)
@@ -378,34 +379,34 @@ module _ {A D : Type 0} (seen : A → Seen) (state : Seen) (block : GroupBlock) 
       lt' : place < length (map seen items)
       lt' = omega (arith, lt, length-map items seen)
 
-      go : (o : Option (Held D)) → ArmsGroup (as_group state block (map seen items) (sets_of o)) disk result (as_group state block (set (map seen items) place (seen new)) (sets_of o))
-      go None = arms_none state block (map seen items) disk place is (seen was) (seen new) at lt' result arms sure
-      go (Some h) = arms_one state block (map seen items) (held_of h) disk place is (seen was) (seen new) at lt' result arms sure
+      go : (o : Option (Held D)) → ArmsGroup (as_group state block (map seen items) (sets_of o)) disk tear result (as_group state block (set (map seen items) place (seen new)) (sets_of o))
+      go None = arms_none state block (map seen items) disk place is (seen was) (seen new) at lt' tear result arms sure
+      go (Some h) = arms_one state block (map seen items) (held_of h) disk place is (seen was) (seen new) at lt' tear result arms sure
 
-  pub volume_arms_kept : (was new : A) → was ≡ slice_index_or items place was → place < length items → (result : Bool) → Arms (seen was) result (seen new) → IsKept state block (map seen (set items place new)) (sets_of o)
-  volume_arms_kept was new value lt result arms =
+  pub volume_arms_kept : (was new : A) → was ≡ slice_index_or items place was → place < length items → (tear : Tear) (result : Bool) → Arms (seen was) tear result (seen new) → IsKept state block (map seen (set items place new)) (sets_of o)
+  volume_arms_kept was new value lt tear result arms =
       let at : seen was ≡ slice_index_or (map seen items) place (seen was) = ap seen value ∙ sym (get_or-map seen items place was (seen was) lt) in
       let lt' : place < length (map seen items) = omega (arith, lt, length-map items seen) in
       subst (λ (l : List Seen). IsKept state block l (sets_of o)) (sym (map-set seen items place new))
-      (v_kept state block (map seen items) (sets_of o) place (seen was) (seen new) lt' at (size_m' state block (map seen items) (sets_of o) disk place is (seen was) (seen new) at lt' result arms) kept)
+      (v_kept state block (map seen items) (sets_of o) place (seen was) (seen new) lt' at (size_m' state block (map seen items) (sets_of o) disk place is (seen was) (seen new) at lt' tear result arms) kept)
 
-  module _ (h : Held D) (some : o ≡ Some h) (le : length items ≤ place) (c' : ChunkSet) (result : Bool) (arms : chunk.ArmsOne h.chunks (place - length items) result c') where
+  module _ (h : Held D) (some : o ≡ Some h) (le : length items ≤ place) (c' : ChunkSet) (tear : Tear) (result : Bool) (arms : chunk.ArmsOne h.chunks (place - length items) tear result c') where
     own_there : IsTrue (is_some h.chunks.shadow)
     own_there = (held_some state block (map seen items) o h some kept).there
 
     at_set : place ≡ length (map seen items) + (place - length items)
     at_set = omega (arith, le, length-map items seen)
 
-    pub set_arms_as : ArmsGroup g disk result (as_group state block (map seen items) (record (held_of h) { chunks = c' } ∷ []))
+    pub set_arms_as : ArmsGroup g disk tear result (as_group state block (map seen items) (record (held_of h) { chunks = c' } ∷ []))
     set_arms_as =
-        subst (λ (x : IiDisks). ArmsGroup x disk result (as_group state block (map seen items) (record (held_of h) { chunks = c' } ∷ []))) (ap (λ (x : Option (Held D)). as_group state block (map seen items) (sets_of x)) (sym some) ∙ view)
-        (set_arms state block (map seen items) (held_of h) disk place is (place - length items) at_set own_there c' result arms)
+        subst (λ (x : IiDisks). ArmsGroup x disk tear result (as_group state block (map seen items) (record (held_of h) { chunks = c' } ∷ []))) (ap (λ (x : Option (Held D)). as_group state block (map seen items) (sets_of x)) (sym some) ∙ view)
+        (set_arms state block (map seen items) (held_of h) disk place is (place - length items) at_set own_there c' tear result arms)
 
     pub set_arms_kept_as : IsKept state block (map seen items) (record (held_of h) { chunks = c' } ∷ [])
-    set_arms_kept_as = set_arms_kept state block (map seen items) (held_of h) disk place is (place - length items) at_set own_there c' result arms (kept_some state block (map seen items) o h some kept)
+    set_arms_kept_as = set_arms_kept state block (map seen items) (held_of h) disk place is (place - length items) at_set own_there c' tear result arms (kept_some state block (map seen items) o h some kept)
 
-  pub no_set_arms : o ≡ None → length items ≤ place → ArmsGroup g disk false g
-  no_set_arms none le = arms_nothing g disk (
+  pub no_set_arms : (tear : Tear) → o ≡ None → length items ≤ place → ArmsGroup g disk tear false g
+  no_set_arms tear none le = arms_nothing g disk tear (
       ap (λ (x : IiDisks). slice_get (disks_of x) disk) (sym view)
       ∙ ap (λ (x : Option (Held D)). slice_get (disks_of (as_group state block (map seen items) (sets_of x))) disk) none
       ∙ ap (λ (n : ℕ). slice_get (disks_of (as_group state block (map seen items) [])) n) is

@@ -1,5 +1,6 @@
 -- What a write to a volume makes of a group that holds one set at most, as volumes to write to.
 use Rattle.std.proofs.Common.{◌≡◌, ◌≢◌, inl, inr, ℕ, zero, suc, ◌+◌, ◌-◌, ◌/◌, ◌^◌, ◌<◌, ◌≤◌, min, Bool, true, false, not, cond, eqb, ◌&&◌, IsTrue, All, List, [], ◌∷◌, length, map, set, get_or, slice_index, slice_index_or, is_some, Result, Ok, Err, is_ok, refl, sym, ◌∙◌, ap, subst, arith}
+use Rattle.std.specs.Bool.{⊤}
 use Rattle.std.specs.List.{list_all, flat_map}
 use Rattle.std.proofs.Math.Seq.{map-set_same}
 use Rattle.std.proofs.lemmas.Bool.{cases_Bool, cases_eq, eqb-true, eq-eqb}
@@ -11,7 +12,7 @@ use Rattle.avs_seg.specs.Image.{Image, blocks_of, put, range, IsMix, ChangesWith
 use Rattle.avs_seg.specs.Causes.{HasCause}
 use Rattle.avs_seg.proofs.Bytes.{length-blocks_of}
 use Rattle.avs_seg.proofs.Changes.{ChangesWithin-put, ChangesWithin-mix}
-use Rattle.avs_dev.specs.Seen.{Seen, IsTold, Reads, Writes, UsesTear}
+use Rattle.avs_dev.specs.Seen.{Seen, IsTold, Reads, Writes, UsesTear, GoesOn}
 use Rattle.avs_dev.specs.Below.{image_of, IsToldAt, ReadsBelow, WritesBelow}
 use Rattle.avs_dev.specs.Devices.{HasOneCause, UsesOneTear}
 use Rattle.avs_dev.proofs.SomeDisks.{HasOneCause_at, UsesOneTear_at, steady_same, steady_at}
@@ -34,7 +35,7 @@ use Rattle.avs_ii.proofs.OpenSets.{fits_online}
 use Rattle.avs_ii.proofs.Writes.{Ready, none_after, image_now, images_now, image_at, master_done, master_stopped, volume_done, volume_stopped, slots_other}
 use Rattle.avs_ii.proofs.Marks.{with_one}
 use Rattle.avs_ii.proofs.Forms.{group_none, group_pending, group_one, set_state}
-use Rattle.avs_ii.proofs.Groups.{three_later, three_rose, three_armed, three_used, three_steady, three_are_steady}
+use Rattle.avs_ii.proofs.Groups.{tears_kept, three_same, three_later, three_rose, three_armed, three_used, three_steady, three_are_steady}
 use Rattle.avs_ii.proofs.Shapes.{keeps_group, keeps_written, shapes_at, same_disk}
 use Rattle.avs_ii.proofs.Quiet.{group_quiet, group_quiet_none, quiet_sound, sound_one, told_at}
 use Rattle.avs_ii.proofs.Findable.{findable_one, one_findable, quiet_findable, findable_quiet, findable_kept}
@@ -160,20 +161,20 @@ module _ (state : Seen) (block : GroupBlock) (V : List Seen) (h : HeldSet) (kept
       | inr apart ↦ ap (λ (i : Image). length i) (others_kept any apart) ∙ told ∙ sym (ap (λ (l : List ℕ). slice_index l any) sizes)
     ]
 
-    pub master_writes : {T E : Type 0} (r : Result T E) → WritesMaster h.chunks m at bytes r c' m' → WritesBelow (below_of g) vol at bytes r (below_of g')
+    pub master_writes : {T E : Type 0} (r : Result T E) → WritesMaster h.chunks m at bytes r c' m' → WritesBelow ⊤ (below_of g) vol at bytes r (below_of g')
     master_writes (Ok x) w = record {
       others = others;
       sizes = sizes;
       note = refl;
       stored = refl;
       steady = three_steady state V vol m m' h h' there disk own.there there' same;
-      cause = record { later = three_later state V vol m m' h h' there disk own.there there' same; failed = tt };
-      done = λ told. done_as (w.done (told_is told));
-      failed = λ told. tt;
-      within = λ told. within_as (length bytes / 512) (length-blocks_of bytes) (subst (λ (i : Image). ChangesWithin at (length (blocks_of bytes)) m.image i) (sym (w.done (told_is told))) (ChangesWithin-put m.image at (blocks_of bytes)));
+      cause = record { later = three_later state V vol m m' h h' there disk own.there there' same; failed = tt; same = three_same state V vol m m' h h' there disk own.there there' same w.causes.armed };
+      done = λ _ told. done_as (w.done (told_is told));
+      failed = λ _ told. tt;
+      within = λ _ told. within_as (length bytes / 512) (length-blocks_of bytes) (subst (λ (i : Image). ChangesWithin at (length (blocks_of bytes)) m.image i) (sym (w.done (told_is told))) (ChangesWithin-put m.image at (blocks_of bytes)));
       told = told_any;
       kept = others_kept;
-      still_armed = three_armed state V vol m m' h h' there disk own.there there' same w.causes.armed;
+      still_armed = three_armed state V vol m m' h h' there disk own.there there' same (tears_kept _ _ w.causes.armed);
       spent = λ steady. tt;
     }
     master_writes (Err f) w = record {
@@ -182,10 +183,10 @@ module _ (state : Seen) (block : GroupBlock) (V : List Seen) (h : HeldSet) (kept
       note = refl;
       stored = refl;
       steady = three_steady state V vol m m' h h' there disk own.there there' same;
-      cause = record { later = three_later state V vol m m' h h' there disk own.there there' same; failed = three_rose state V vol m m' h h' there disk own.there there' same w.causes.failed };
-      done = λ told. tt;
-      failed = λ told. mix_as (w.failed (told_is told));
-      within = λ told. within_as (length bytes / 512) (length-blocks_of bytes) (ChangesWithin-mix m.image at (blocks_of bytes) m'.image (w.failed (told_is told)));
+      cause = record { later = three_later state V vol m m' h h' there disk own.there there' same; failed = three_rose state V vol m m' h h' there disk own.there there' same w.causes.failed; same = tt };
+      done = λ _ told. tt;
+      failed = λ _ told. mix_as (w.failed (told_is told));
+      within = λ _ told. within_as (length bytes / 512) (length-blocks_of bytes) (ChangesWithin-mix m.image at (blocks_of bytes) m'.image (w.failed (told_is told)));
       told = told_any;
       kept = others_kept;
       still_armed = tt;
@@ -298,17 +299,17 @@ module _ (state : Seen) (block : GroupBlock) (V : List Seen) (sets : List HeldSe
     held = λ i d lt. held_same block.slots V (set V vol m') (get_or sets i d) (sizes_same V vol m m' there disk same) (length-set V vol m') (kept.held i d lt);
   }
 
-  pub v_writes : {T E : Type 0} (at : ℕ) (bytes : List ℕ) (r : Result T E) → Writes m at bytes r m' → WritesBelow (below_of p) vol at bytes r (below_of p')
+  pub v_writes : {T E : Type 0} (at : ℕ) (bytes : List ℕ) (r : Result T E) → Writes m at bytes r m' → WritesBelow ⊤ (below_of p) vol at bytes r (below_of p')
   v_writes at bytes r w = record {
     others = images_now V vol m' there ∙ ap (λ (i : Image). set (map (λ (d : Seen). d.image) V) vol i) (sym v_image_after);
     sizes = sizes;
     note = refl;
     stored = refl;
     steady = ap (λ (l : List Seen). list_all (λ (d : Seen). d.steady) l) disks_are ∙ steady_same (disks_of p) (suc vol) m' m in_all (w.steady ∙ ap (λ (d : Seen). d.steady) (sym disk_at));
-    cause = subst (λ (l : List Seen). HasOneCause (map (λ (d : Seen). d.faults) (disks_of p)) (map (λ (d : Seen). d.faults) l) r) (sym disks_are) (HasOneCause_at (disks_of p) (suc vol) m' m in_all r (subst (λ (d : Seen). HasCause d.faults m'.faults r) (sym disk_at) w.cause));
-    done = λ told. on_ok_weaker r (λ done. v_image_after ∙ done ∙ ap (λ (i : Image). put i at (blocks_of bytes)) (sym v_image_was)) (w.done (v_told_is told));
-    failed = λ told. on_err_weaker r (λ mix. subst (λ (i : Image). IsMix i at (blocks_of bytes) (image_of (below_of p') vol)) (sym v_image_was) (subst (λ (i : Image). IsMix m.image at (blocks_of bytes) i) (sym v_image_after) mix)) (w.failed (v_told_is told));
-    within = λ told. subst (λ (i : Image). ChangesWithin at (length bytes / 512) i (image_of (below_of p') vol)) (sym v_image_was) (subst (λ (i : Image). ChangesWithin at (length bytes / 512) m.image i) (sym v_image_after) (w.within (v_told_is told)));
+    cause = subst (λ (l : List Seen). HasOneCause (map (λ (d : Seen). d.faults) (disks_of p)) (map (λ (d : Seen). d.faults) l) r) (sym disks_are) (HasOneCause_at (disks_of p) (suc vol) m' m in_all r (subst (λ (d : Seen). HasCause d.faults m'.faults r) (sym disk_at) w.cause) (subst (λ (d : Seen). GoesOn d r m') (sym disk_at) w.goes));
+    done = λ _ told. on_ok_weaker r (λ done. v_image_after ∙ done ∙ ap (λ (i : Image). put i at (blocks_of bytes)) (sym v_image_was)) (w.done (v_told_is told));
+    failed = λ _ told. on_err_weaker r (λ mix. subst (λ (i : Image). IsMix i at (blocks_of bytes) (image_of (below_of p') vol)) (sym v_image_was) (subst (λ (i : Image). IsMix m.image at (blocks_of bytes) i) (sym v_image_after) mix)) (w.failed (v_told_is told));
+    within = λ _ told. subst (λ (i : Image). ChangesWithin at (length bytes / 512) i (image_of (below_of p') vol)) (sym v_image_was) (subst (λ (i : Image). ChangesWithin at (length bytes / 512) m.image i) (sym v_image_after) (w.within (v_told_is told)));
     told = told_any;
     kept = others_kept;
     still_armed = on_ok_weaker r (λ armed. ap (λ (l : List Seen). map (λ (d : Seen). d.armed) l) disks_are ∙ map-set_same (λ (d : Seen). d.armed) (disks_of p) (suc vol) m' m (armed ∙ ap (λ (d : Seen). d.armed) (sym disk_at))) w.still_armed;
@@ -468,7 +469,7 @@ module _ (state : Seen) (block : GroupBlock) (V : List Seen) (sets : List HeldSe
   read_image : image_of (below_of b) vol ≡ m.image
   read_image = image_at V vol m there disk
 
-  pub v_reads : ReadsBelow (below_of b) vol at out r (below_of b')
+  pub v_reads : ReadsBelow ⊤ (below_of b) vol at out r (below_of b')
   v_reads = record {
     kept = λ i. record {
       images = read_images i;
@@ -481,9 +482,9 @@ module _ (state : Seen) (block : GroupBlock) (V : List Seen) (sets : List HeldSe
     };
     images = read_images;
     sizes = read_sizes;
-    cause = subst (λ (l : List Seen). HasOneCause (map (λ (d : Seen). d.faults) (disks_of b)) (map (λ (d : Seen). d.faults) l) r) (sym read_disks) (HasOneCause_at (disks_of b) (suc vol) m' m read_in r (subst (λ (d : Seen). HasCause d.faults m'.faults r) (sym read_at) w.cause));
+    cause = subst (λ (l : List Seen). HasOneCause (map (λ (d : Seen). d.faults) (disks_of b)) (map (λ (d : Seen). d.faults) l) r) (sym read_disks) (HasOneCause_at (disks_of b) (suc vol) m' m read_in r (subst (λ (d : Seen). HasCause d.faults m'.faults r) (sym read_at) w.cause) (subst (λ (d : Seen). GoesOn d r m') (sym read_at) w.goes));
     told = λ any told. ap (λ (l : List Image). length (slice_index_or l any [])) read_images ∙ told ∙ sym (ap (λ (l : List ℕ). slice_index l any) read_sizes);
-    shows = λ told. on_ok_weaker r (λ shown. shown ∙ ap (λ (i : Image). range i at (length out / 512)) (sym read_image)) (w.shows (ap (λ (i : Image). length i) (sym read_image) ∙ told ∙ size_at V vol m m there disk));
+    shows = λ _ told. on_ok_weaker r (λ shown. shown ∙ ap (λ (i : Image). range i at (length out / 512)) (sym read_image)) (w.shows (ap (λ (i : Image). length i) (sym read_image) ∙ told ∙ size_at V vol m m there disk));
     sure = λ steady. w.sure (subst (λ (d : Seen). IsTrue d.steady) read_at (steady_at (disks_of b) (suc vol) m' m read_in steady));
   }
 

@@ -1,5 +1,6 @@
 -- What a write of a block makes of a state disk, and of a group.
-use Rattle.std.proofs.Common.{◌≡◌, ◌⊎◌, inl, inr, ℕ, zero, suc, ◌+◌, ◌^◌, ◌%◌, ◌<◌, ◌≤◌, nat_lt, Bool, true, false, cond, eqb, ◌&&◌, IsTrue, All, List, [], ◌∷◌, ◌++◌, length, map, Option, None, Some, is_some, slice_index, Result, Ok, Err, OnErr, refl, sym, ◌∙◌, ap, subst, arith}
+use Rattle.std.proofs.Common.{◌≡◌, ◌⊎◌, inl, inr, ℕ, zero, suc, ◌+◌, ◌^◌, ◌%◌, ◌<◌, ◌≤◌, nat_lt, Bool, true, false, cond, eqb, ◌&&◌, IsTrue, All, List, [], ◌∷◌, ◌++◌, length, map, Option, None, Some, is_some, slice_index, Result, Ok, Err, OnErr, refl, sym, ◌∙◌, ap, subst, arith, OnOk}
+use Rattle.std.specs.Bool.{⊤}
 use Rattle.std.specs.List.{list_all, flat_map}
 use Rattle.std.specs.Cmp.Lexicographic.{pointwise}
 use Rattle.std.proofs.lemmas.Bool.{eqb-true, eq-eqb}
@@ -8,7 +9,7 @@ use Rattle.avs_seg.proofs.Bytes.{blocks_of_one}
 use Rattle.avs_seg.proofs.Puts.{put_one}
 use Rattle.avs_seg.specs.Causes.{Rose}
 use Rattle.avs_chunk.specs.ChunkSet.{disks_there}
-use Rattle.avs_dev.specs.Seen.{Seen, IsTold, Writes}
+use Rattle.avs_dev.specs.Seen.{Seen, IsTold, Writes, IsSpared}
 use Rattle.avs_dev.specs.Below.{IsNoteTold, SetsNote}
 use Rattle.avs_dev.specs.Devices.{HasOneCause}
 use Rattle.avs_code.specs.Label.{IsLabel, label_block}
@@ -20,7 +21,7 @@ use Rattle.avs_code.proofs.GroupBlocks.{group_block_at-is}
 use Rattle.avs_ii.specs.Held.{HeldSet, IiDisks}
 use Rattle.avs_ii.specs.Meaning.{kept_on}
 use Rattle.avs_ii.specs.Kept.{IsKept}
-use Rattle.avs_ii.specs.Sound.{state_label}
+use Rattle.avs_ii.specs.Sound.{state_label, IsSound, AreSound}
 use Rattle.avs_ii.specs.AsBelow.{below_of, same_byte, is_spelled, stored_on, same_slot}
 use Rattle.avs_ii.proofs.Several.{fell_cons, fell_same, rose_here, tear_here}
 use Rattle.avs_ii.proofs.OpenSets.{lt_is, lt_true}
@@ -210,9 +211,9 @@ module _ (state state' : Seen) (next : GroupBlock) (room : 1 < state.size) (len 
     stored_before : IsNoteTold (below_of k) → Stored block.slots state
     stored_before told = stored_some block.slots state (subst (λ (l : List Slot). SlotsKeep l) slots (slots_keep next is.keeps is.fits)) told
 
-    cause_ok : {T E : Type 0} (r : Result T E) → state.faults ≤ state'.faults → OnErr r (Rose state.faults state'.faults) → HasOneCause (below_of k).faults (state'.faults ∷ map (λ (d : Seen). d.faults) (others V sets)) r
-    cause_ok (Ok x) later c = record { later = fell_cons _ _ _ _ later (fell_same _); failed = tt }
-    cause_ok (Err f) later c = record { later = fell_cons _ _ _ _ later (fell_same _); failed = rose_here _ _ _ _ c }
+    cause_ok : {T E : Type 0} (r : Result T E) → state.faults ≤ state'.faults → OnOk r (IsSpared state state') → OnErr r (Rose state.faults state'.faults) → HasOneCause (below_of k).faults (state'.faults ∷ map (λ (d : Seen). d.faults) (others V sets)) r
+    cause_ok (Ok x) later spared c = record { later = fell_cons _ _ _ _ later (fell_same _); failed = tt; same = ap (λ (n : ℕ). n ∷ map (λ (d : Seen). d.faults) (others V sets)) spared.faults }
+    cause_ok (Err f) later spared c = record { later = fell_cons _ _ _ _ later (fell_same _); failed = rose_here _ _ _ _ c; same = tt }
 
     steady_kept : state'.steady ≡ state.steady → list_all (λ (d : Seen). d.steady) (state' ∷ others V sets) ≡ list_all (λ (d : Seen). d.steady) (state ∷ others V sets)
     steady_kept same = ap (λ (t : Bool). t && list_all (λ (d : Seen). d.steady) (others V sets)) same
@@ -221,12 +222,12 @@ module _ (state state' : Seen) (next : GroupBlock) (room : 1 < state.size) (len 
     first_steady true b t = refl
     first_steady false b t = cc
 
-    pub sets_note_ok : {T E : Type 0} (x : T) → Writes {T = T} {E = E} state 1 (group_block next) (Ok x) state' → SetsNote {T = T} {E = E} (below_of k) next.note (Ok x) (below_of (as_group state' next V sets))
+    pub sets_note_ok : {T E : Type 0} (x : T) → Writes {T = T} {E = E} state 1 (group_block next) (Ok x) state' → SetsNote {T = T} {E = E} ⊤ (below_of k) next.note (Ok x) (below_of (as_group state' next V sets))
     sets_note_ok x w = record {
-      images = refl;
+      images = λ _. refl;
       sizes = refl;
       steady = steady_kept w.steady;
-      cause = cause_ok (Ok x) w.cause.later tt;
+      cause = cause_ok (Ok x) w.cause.later w.goes.done tt;
       done = refl;
       failed = tt;
       stored = λ told. stored told;
@@ -239,12 +240,20 @@ module _ (state state' : Seen) (next : GroupBlock) (room : 1 < state.size) (len 
         stored : IsNoteTold (below_of k) → stored_on next.slots state' ≡ Some next.note
         stored told = let s = stored_before told in stored_is state' next next.slots (w.told s.told) (still_labelled (Ok x) w s.told s.label) (holds_next (now_ok x w s.told)) refl
 
-    pub sets_note_err : {T E T' E' : Type 0} (f : E) (f' : E') → Writes {T = T} {E = E} state 1 (group_block next) (Err f) state' → SetsNote {T = T'} {E = E'} (below_of k) next.note (Err f') (below_of (as_group state' block V sets))
+    pub sound_note_ok : {T E : Type 0} (x : T) → Writes {T = T} {E = E} state 1 (group_block next) (Ok x) state' → IsSound k → IsSound (as_group state' next V sets)
+    sound_note_ok x w sound =
+        let told = sound.holds.told in
+        record {
+          holds = record { told = w.told told; label = still_labelled (Ok x) w told sound.holds.label; holds = holds_next (now_ok x w told) };
+          disks = subst (λ (l : List Slot). AreSound l V sets) (sym slots) sound.disks;
+        }
+
+    pub sets_note_err : {T E T' E' : Type 0} (f : E) (f' : E') → Writes {T = T} {E = E} state 1 (group_block next) (Err f) state' → SetsNote {T = T'} {E = E'} ⊤ (below_of k) next.note (Err f') (below_of (as_group state' block V sets))
     sets_note_err {T' = T'} {E' = E'} f f' w = record {
-      images = refl;
+      images = λ _. refl;
       sizes = refl;
       steady = steady_kept w.steady;
-      cause = cause_ok (Err f') w.cause.later w.cause.failed;
+      cause = cause_ok (Err f') w.cause.later tt w.cause.failed;
       done = tt;
       failed = inl refl;
       stored = λ told. tt;

@@ -7,6 +7,7 @@ use Rattle.avs_seg.specs.Image.{Image, Block, block_at, put, IsMix}
 use Rattle.avs_seg.specs.declared.fault.Failed.{Failed}
 use Rattle.avs_seg.proofs.Bytes.{blocks_of_one}
 use Rattle.avs_seg.proofs.Puts.{put_one, put_below}
+use Rattle.avs_dev.proofs.Going.{writes_ok, writes_err}
 use Rattle.avs_dev.specs.Seen.{Seen, IsTold, Writes}
 use Rattle.avs_code.specs.Label.{IsLabel}
 use Rattle.avs_code.specs.GroupBlock.{group_block, group_block_at, GroupBlockKeeps, GroupBlockFits, IsGroupBlock}
@@ -34,40 +35,6 @@ use Rattle.avs_ii.proofs.Shapes.{same_steady}
 use Rattle.avs_ii.proofs.Findable.{findable_one}
 use Rattle.avs_ii.proofs.Loading.{whole_parts, whole_sound}
 use Rattle.avs_ii.proofs.Making.{the_group, master_len, all_of, of_all, kept_is, meaning_by, state_fresh, none_back_fresh, pending_one, found_only, none_some}
-
--- ---- a write of the block
-
-writes_ok : {T E T' E' : Type 0} (x : T) (y : T') (old new : Seen) (at : ℕ) (bytes : List ℕ) → Writes {T = T} {E = E} old at bytes (Ok x) new → Writes {T = T'} {E = E'} old at bytes (Ok y) new
-writes_ok x y old new at bytes w = record {
-  size = w.size;
-  steady = w.steady;
-  cause = record { later = w.cause.later; failed = tt };
-  done = w.done;
-  failed = λ told. tt;
-  within = w.within;
-  told = w.told;
-  tells = w.tells;
-  counted = w.counted;
-  uncounted = tt;
-  still_armed = w.still_armed;
-  spent = λ _. tt;
-}
-
-writes_err : {T E T' E' : Type 0} (x : E) (y : E') (old new : Seen) (at : ℕ) (bytes : List ℕ) → Writes {T = T} {E = E} old at bytes (Err x) new → Writes {T = T'} {E = E'} old at bytes (Err y) new
-writes_err x y old new at bytes w = record {
-  size = w.size;
-  steady = w.steady;
-  cause = record { later = w.cause.later; failed = w.cause.failed };
-  done = λ told. tt;
-  failed = w.failed;
-  within = w.within;
-  told = w.told;
-  tells = w.tells;
-  counted = tt;
-  uncounted = w.uncounted;
-  still_armed = tt;
-  spent = w.spent;
-}
 
 head_same : (x y : HeldSet) → x ∷ [] ≡ y ∷ [] → x ≡ y
 head_same x y e = ap (λ (l : List HeldSet). first l) e
@@ -244,7 +211,7 @@ module _ (state state' : Seen) (block : GroupBlock) (V : List Seen) (s : HeldSet
       names = record { absent = λ none. absurd (none_some (sym none ∙ found_here slot is)); no_set = λ e. absurd (ok_err tt refusal.NoSet e); others = tt };
       no_set = λ e. absurd (ok_err tt refusal.NoSet e);
       rest = refl;
-      writes = λ s' found. subst (λ (x : HeldSet). Writes {T = Unit {0}} {E = Refusal} state 1 (group_block (block_with block x)) (Ok tt) state') (same_set slot s' found) (writes_ok tt tt state state' 1 (group_block (block_with block s)) w);
+      writes = λ s' found. subst (λ (x : HeldSet). Writes {T = Unit {0}} {E = Refusal} state 1 (group_block (block_with block x)) (Ok tt) state') (same_set slot s' found) (writes_ok state state' 1 (group_block (block_with block s)) tt tt w);
       block = λ s' found. ap (λ (x : HeldSet). block_with block x) (same_set slot s' found);
       kept = tt;
       done = λ s' found sound. subst (λ (x : HeldSet). IsFresh x → meaning (the_group state' (block_with block s) V (s ∷ [])) ≡ after_enabling (meaning (the_group state block V (s ∷ []))) slot x.chunks.kind x.master) (same_set slot s' found) (λ fresh.
@@ -296,7 +263,7 @@ module _ (state state' : Seen) (block : GroupBlock) (V : List Seen) (s : HeldSet
       names = record { absent = λ none. absurd (none_some (sym none ∙ found_here slot is)); no_set = λ same. absurd (is_err (err_same refusal.Fault refusal.NoSet _ _ refl refl same)); others = inr refl };
       no_set = λ same. absurd (is_err (err_same refusal.Fault refusal.NoSet _ _ refl refl same));
       rest = refl;
-      writes = λ s' found. subst (λ (x : HeldSet). Writes {T = Unit {0}} {E = Refusal} state 1 (group_block (block_with block x)) (Err refusal.Fault) state') (same_set slot s' found) (writes_err e refusal.Fault state state' 1 (group_block (block_with block s)) w);
+      writes = λ s' found. subst (λ (x : HeldSet). Writes {T = Unit {0}} {E = Refusal} state 1 (group_block (block_with block x)) (Err refusal.Fault) state') (same_set slot s' found) (writes_err state state' 1 (group_block (block_with block s)) e refusal.Fault w);
       block = λ s' found. tt;
       kept = refl;
       done = λ s' found sound fresh. tt;

@@ -8,7 +8,7 @@ use Rattle.avs_seg.specs.Causes.{Rose}
 use Rattle.avs_dev.specs.Seen.{Seen, UsesTear}
 use Rattle.avs_dev.specs.Devices.{NoneFell, OneRose, UsesOneTear}
 use Rattle.avs_dev.proofs.SomeDisks.{steady_at, NoneFell-set, OneRose-set, UsesOneTear_at}
-use Rattle.avs_chunk.specs.Disks.{AreSameDisks, AreSteady, AreStillArmed, OneUsed}
+use Rattle.avs_chunk.specs.Disks.{Disks, AreSameDisks, AreSteady, AreStillArmed, OneUsed}
 use Rattle.avs_chunk.specs.ChunkSet.{ChunkSet, disk_of, disks_there}
 use Rattle.avs_chunk.specs.Calls.{disks_of}
 use Rattle.avs_ii.specs.Held.{HeldSet}
@@ -20,6 +20,15 @@ disks_two c there = go c.shadow c.areas.disk there
     go : (shadow : Option Seen) (bitmap : Seen) → IsTrue (is_some shadow) → disks_there (record c { shadow = shadow; areas = record c.areas { disk = bitmap } }) ≡ disk_of shadow ∷ bitmap ∷ []
     go None bitmap there = cc
     go (Some d) bitmap there = refl
+
+-- the tears that were armed are armed
+pub record KeepTears (old new : Disks) : Type 0 where
+  pub master : new.master.armed ≡ old.master.armed
+  pub shadow : new.shadow.armed ≡ old.shadow.armed
+  pub bitmap : new.bitmap.armed ≡ old.bitmap.armed
+
+pub tears_kept : (old new : Disks) → AreStillArmed old new → KeepTears old new
+tears_kept old new a = record { master = a.master.armed; shadow = a.shadow.armed; bitmap = a.bitmap.armed }
 
 -- all disks of a group with one set
 abbrev pub disks_one : Seen → List Seen → HeldSet → List Seen
@@ -63,6 +72,14 @@ module _ (state : Seen) (volumes : List Seen) (v : ℕ) (m m' : Seen) (h h' : He
   pub three_later : NoneFell (map (λ (d : Seen). d.faults) old) (map (λ (d : Seen). d.faults) new)
   three_later = faults_as NoneFell (fell_cons state.faults state.faults _ _ (omega arith) (fell_append faults (set faults v m'.faults) (tail h) (tail h') (NoneFell-set faults v m'.faults inside_faults (omega (arith, fault_was, same.master.later))) (fell_cons _ _ _ _ same.shadow.later (fell_cons _ _ _ _ same.bitmap.later fell_nil))))
 
+  pub three_same : AreStillArmed (disks_of h.chunks m) (disks_of h'.chunks m') → map (λ (d : Seen). d.faults) new ≡ map (λ (d : Seen). d.faults) old
+  three_same a =
+      form (λ (d : Seen). d.faults) state (set volumes v m') h' there'
+      ∙ ap (λ (l : List ℕ). state.faults ∷ (l ++ tail h')) (map-set_same (λ (d : Seen). d.faults) volumes v m' m (a.master.faults ∙ ap (λ (d : Seen). d.faults) disk))
+      ∙ ap (λ (n : ℕ). state.faults ∷ (faults ++ (n ∷ h'.chunks.areas.disk.faults ∷ []))) a.shadow.faults
+      ∙ ap (λ (n : ℕ). state.faults ∷ (faults ++ ((disk_of h.chunks.shadow).faults ∷ n ∷ []))) a.bitmap.faults
+      ∙ sym (form (λ (d : Seen). d.faults) state volumes h there)
+
   pub three_rose : Rose m.faults m'.faults ⊎ (Rose (disk_of h.chunks.shadow).faults (disk_of h'.chunks.shadow).faults ⊎ Rose h.chunks.areas.disk.faults h'.chunks.areas.disk.faults) → OneRose (map (λ (d : Seen). d.faults) old) (map (λ (d : Seen). d.faults) new)
   three_rose (inl r) = faults_as OneRose (rose_there _ _ _ _ (rose_left faults (set faults v m'.faults) (tail h) (tail h') long (OneRose-set faults v m'.faults inside_faults (omega (arith, r, fault_was)))))
   three_rose (inr (inl r)) = faults_as OneRose (rose_there _ _ _ _ (rose_right faults (set faults v m'.faults) (tail h) (tail h') long (rose_here _ _ _ _ r)))
@@ -83,7 +100,7 @@ module _ (state : Seen) (volumes : List Seen) (v : ℕ) (m m' : Seen) (h h' : He
   armed_kept : m'.armed ≡ m.armed → armed (set volumes v m') ≡ armed volumes
   armed_kept kept = map-set_same (λ (d : Seen). d.armed) volumes v m' m (kept ∙ ap (λ (d : Seen). d.armed) disk)
 
-  pub three_armed : AreStillArmed (disks_of h.chunks m) (disks_of h'.chunks m') → armed new ≡ armed old
+  pub three_armed : KeepTears (disks_of h.chunks m) (disks_of h'.chunks m') → armed new ≡ armed old
   three_armed a =
       armed_new
       ∙ ap (λ (l : List Bool). state.armed ∷ (l ++ ends h')) (armed_kept a.master)

@@ -8,6 +8,7 @@ use Rattle.avs_seg.proofs.Bytes.{length-blocks_of}
 use Rattle.avs_seg.proofs.Mixes.{IsMix-same}
 use Rattle.avs_dev.specs.Seen.{Seen, IsTold, Writes, UsesTear}
 use Rattle.avs_chunk.specs.States.{on_shadow, Splits, SplitsFirst, blocks_in}
+use Rattle.avs_dev.proofs.Going.{spared_then}
 use Rattle.avs_chunk.specs.Disks.{IsSameDisk, AreSteady, raised}
 use Rattle.avs_chunk.specs.ChunkSet.{ChunkSet, disk_of, chunks_of, state_of, disk_state, shadow_image, IsKnown, DiffersInSplit}
 use Rattle.avs_chunk.specs.Calls.{Saves, ChangesIn, disks_of, chunks_end}
@@ -119,7 +120,7 @@ module _ (c : ChunkSet) (m : Seen) (at : ℕ) (bytes : List ℕ) (c' : ChunkSet)
         disks = record { master = later_master s.disks.master w.size w.steady w.told w.cause.later; shadow = s.disks.shadow; bitmap = s.disks.bitmap };
         causes = record {
           failed = tt;
-          armed = record { master = w.still_armed ∙ s.causes.armed.master; shadow = s.causes.armed.shadow; bitmap = s.causes.armed.bitmap };
+          armed = record { master = spared_then m m' m'' s.causes.armed.master w.goes.done; shadow = s.causes.armed.shadow; bitmap = s.causes.armed.bitmap };
           used = λ steady. tt;
         };
         settled = settled_first c c' _ _ s.stays.blocks settled (all_first _ _ _ _ _ ordered s.memory);
@@ -160,7 +161,7 @@ module _ (c : ChunkSet) (m : Seen) (at : ℕ) (bytes : List ℕ) (c' : ChunkSet)
           used : AreSteady (disks_of c m) → Writes {T = T'} {E = E'} m' at bytes (Err f) m'' → UsesTear m m'' × ((disk_of c'.shadow).armed ≡ (disk_of c.shadow).armed) × (c'.areas.disk.armed ≡ c.areas.disk.armed)
           used steady w =
               let tear = w.spent (subst (λ (b : Bool). IsTrue b) (sym s.disks.master.steady) steady.master) in
-              (record { was_armed = subst (λ (b : Bool). IsTrue b) s.causes.armed.master tear.was_armed; is_used = tear.is_used }, s.causes.armed.shadow, s.causes.armed.bitmap)
+              (record { was_armed = subst (λ (b : Bool). IsTrue b) s.causes.armed.master.armed tear.was_armed; is_used = tear.is_used }, s.causes.armed.shadow.armed, s.causes.armed.bitmap.armed)
 
           not_before : {P : Type 0} → chunks_end at (length (blocks_of bytes)) < chunks_end at (length (blocks_of bytes)) → P
           not_before lt = elim (less (chunks_end at (length (blocks_of bytes))) lt) [ ]

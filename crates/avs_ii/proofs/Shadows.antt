@@ -12,7 +12,7 @@ use Rattle.std.specs.Option.{option_map, option_map_or}
 use Rattle.std.proofs.Math.Seq.{map-set_same}
 use Rattle.std.proofs.lemmas.List.{length-map, map-set, get_or-map, get_or-set_same}
 use Rattle.std.proofs.lemmas.Option.{same_Some}
-use Rattle.avs_chunk.specs.Disks.{AreStillArmed, Counts, CountsAtMost, raised}
+use Rattle.avs_chunk.specs.Disks.{Counts, CountsAtMost, raised}
 use Rattle.avs_chunk.specs.Calls.{disks_of as disks_of_chunks}
 use Rattle.avs_chunk.specs.ChunkSet.{ChunkSet, disk_of, shadow_image}
 use Rattle.avs_ii.specs.AsBelow.{quiet, quiet_chunks, quiet_set}
@@ -37,7 +37,7 @@ use Rattle.avs_ii.proofs.Shapes.{KeepsSet, same_disk, shapes_at, keeps_written, 
 use Rattle.avs_ii.proofs.Findable.{stays_read}
 use Rattle.avs_ii.proofs.Keeping.{Keeps, set_keeps}
 use Rattle.avs_ii.proofs.Several.{fell_same}
-use Rattle.avs_ii.proofs.Groups.{three_later, three_rose, three_armed, three_used, three_are_steady}
+use Rattle.avs_ii.proofs.Groups.{KeepTears, tears_kept, three_later, three_rose, three_armed, three_used, three_are_steady}
 
 -- ---- which set is named
 
@@ -226,7 +226,7 @@ module _ (state : Seen) (block : GroupBlock) (V : List Seen) (h : HeldSet) (kept
       block = refl;
       later = three_later state V h.master m m' h h' own.master disk own.there (there' (Ok x) w) w.disks;
       fault = λ e. cc;
-      still_armed = three_armed state V h.master m m' h h' own.master disk own.there (there' (Ok x) w) w.disks w.causes.armed;
+      still_armed = three_armed state V h.master m m' h h' own.master disk own.there (there' (Ok x) w) w.disks (tears_kept _ _ w.causes.armed);
       spent = λ steady e. cc;
       done = λ sound. as_meaning (Ok x) w (λ a b. b ≡ after_stages a (shadow_write_stages slot at (blocks_of bytes))) sound (subst (λ (k : ℕ). group_by block.slots block.note V' (h' ∷ []) ≡ after_stages (group_by block.slots block.note V (h ∷ [])) (shadow_write_stages k at (blocks_of bytes))) is_slot
           (shadow_done block.slots block.note V h m ready (sound_set sound).none_back (sound_set sound).known (sound_told sound) c' m' at bytes some inside x w));
@@ -324,7 +324,7 @@ module _ (state : Seen) (block : GroupBlock) (V : List Seen) (h : HeldSet) (kept
         };
       }
 
-      still_armed : AreStillArmed (disks_of_chunks h.chunks m) (disks_of_chunks c' m')
+      still_armed : KeepTears (disks_of_chunks h.chunks m) (disks_of_chunks c' m')
       still_armed = record { master = ap (λ (d : Seen). d.armed) w.master; shadow = ap (λ (d : Seen). d.armed) w.shadow; bitmap = ap (λ (c : ChunkSet). c.areas.disk.armed) w.rest }
 
       image_is : IsSound g → shadow_image_at (meaning g).sets slot ≡ shadow_image h.chunks m.image

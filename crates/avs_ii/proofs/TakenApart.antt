@@ -7,7 +7,7 @@ use Rattle.avs_dev.specs.declared.back.Why.{Why}
 use Rattle.avs_dev.specs.declared.back.Why.TheVariants as why
 use Rattle.avs_code.specs.declared.group_blocks.GroupBlock.{GroupBlock}
 use Rattle.avs_model.specs.declared.answer.Refusal.{Refusal}
-use Rattle.avs_model.specs.declared.answer.Refusal.TheVariants.{Down, NoVolume, NoSet, NoGroup, Length, WrongState, Exists, Range, Size, Limit, NoMemory, Fault, BusyVolume, NoContents, BadRecord}
+use Rattle.avs_model.specs.declared.answer.Refusal.TheVariants.{Down, BadWord, NoFile, NoVolume, NoSet, NoGroup, NoTap, Exists, NotPrimary, LinkDown, BusyVolume, Length, Range, Size, Limit, Unlike, Tap, Stale, WrongState, NoPlace, Copying, NoContents, Offline, WrongStamp, Differ, QueueFull, BadRecord, NoMemory, Fault}
 use Rattle.avs_model.specs.declared.shadow.Kind.{Kind}
 use Rattle.avs_model.specs.declared.shadow.Kind.TheVariants.{Ind, Dep, Compact}
 use Rattle.avs_seg.specs.Segment.{seg_count}
@@ -171,6 +171,20 @@ small_refused g kind master shadow bitmap Fault w = absurd w
 small_refused g kind master shadow bitmap (BusyVolume role) w = absurd w
 small_refused g kind master shadow bitmap NoContents w = absurd w
 small_refused g kind master shadow bitmap (BadRecord field) w = absurd w
+small_refused g kind master shadow bitmap (BadWord n) w = absurd w
+small_refused g kind master shadow bitmap NoFile w = absurd w
+small_refused g kind master shadow bitmap (NoTap n) w = absurd w
+small_refused g kind master shadow bitmap NotPrimary w = absurd w
+small_refused g kind master shadow bitmap LinkDown w = absurd w
+small_refused g kind master shadow bitmap (Unlike n) w = absurd w
+small_refused g kind master shadow bitmap (Tap tap code) w = absurd w
+small_refused g kind master shadow bitmap (Stale ours theirs) w = absurd w
+small_refused g kind master shadow bitmap (NoPlace n) w = absurd w
+small_refused g kind master shadow bitmap (Copying n) w = absurd w
+small_refused g kind master shadow bitmap (Offline need slots) w = absurd w
+small_refused g kind master shadow bitmap (WrongStamp ours theirs) w = absurd w
+small_refused g kind master shadow bitmap (Differ n) w = absurd w
+small_refused g kind master shadow bitmap (QueueFull writes blocks) w = absurd w
 
 pub limit_refused : (g : IiDisks) (kind : Kind) (master : ℕ) (shadow bitmap : Seen) (refused : Refusal) → Fits (Some shadow) bitmap (blocks_at g master) → IsLimit g kind refused → EnableRefused g kind master shadow bitmap refused shadow bitmap
 limit_refused g kind master shadow bitmap (Limit n) fits w = (fits, (w, (refl, refl)))
@@ -188,6 +202,20 @@ limit_refused g kind master shadow bitmap Fault fits w = absurd w
 limit_refused g kind master shadow bitmap (BusyVolume role) fits w = absurd w
 limit_refused g kind master shadow bitmap NoContents fits w = absurd w
 limit_refused g kind master shadow bitmap (BadRecord field) fits w = absurd w
+limit_refused g kind master shadow bitmap (BadWord n) fits w = absurd w
+limit_refused g kind master shadow bitmap NoFile fits w = absurd w
+limit_refused g kind master shadow bitmap (NoTap n) fits w = absurd w
+limit_refused g kind master shadow bitmap NotPrimary fits w = absurd w
+limit_refused g kind master shadow bitmap LinkDown fits w = absurd w
+limit_refused g kind master shadow bitmap (Unlike n) fits w = absurd w
+limit_refused g kind master shadow bitmap (Tap tap code) fits w = absurd w
+limit_refused g kind master shadow bitmap (Stale ours theirs) fits w = absurd w
+limit_refused g kind master shadow bitmap (NoPlace n) fits w = absurd w
+limit_refused g kind master shadow bitmap (Copying n) fits w = absurd w
+limit_refused g kind master shadow bitmap (Offline need slots) fits w = absurd w
+limit_refused g kind master shadow bitmap (WrongStamp ours theirs) fits w = absurd w
+limit_refused g kind master shadow bitmap (Differ n) fits w = absurd w
+limit_refused g kind master shadow bitmap (QueueFull writes blocks) fits w = absurd w
 
 pub make_refused : (g : IiDisks) (kind : Kind) (master : ℕ) (shadow bitmap : Seen) (y : Why) (shadow' bitmap' : Seen) → limit_at g kind ≡ None → MakeRefused shadow bitmap (blocks_at g master) y shadow' bitmap' → EnableRefused g kind master shadow bitmap (refusal_of y) shadow' bitmap'
 make_refused g kind master shadow bitmap (why.Size need have) shadow' bitmap' within w = w

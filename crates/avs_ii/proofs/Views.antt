@@ -1,5 +1,6 @@
 -- The same of disks of any type, which contracts see.
 use Rattle.std.proofs.Common.{◌≡◌, ℕ, ◌<◌, ◌≤◌, ◌/◌, ◌+◌, true, false, eqb, ◌&&◌, List, [], ◌∷◌, length, map, set, slice_index_or, Option, None, Some, Result, is_ok, sym, ◌∙◌, ap, subst, arith}
+use Rattle.std.specs.Bool.{⊤}
 use Rattle.std.proofs.lemmas.List.{get_or-map, map-set, length-map}
 use Rattle.avs_dev.specs.Seen.{Seen, IsRange, Reads, Writes}
 use Rattle.avs_dev.specs.Below.{IsRangeOf, ReadsBelow, WritesBelow, size_of}
@@ -98,10 +99,10 @@ module _ {A D : Type 0} (seen : A → Seen) (state : Seen) (block : GroupBlock) 
         pub exit_kept : IsKept state block (map seen (set items vol new)) (record (held_of h) { chunks = c' } ∷ [])
         exit_kept = subst (λ (l : List Seen). IsKept state block l (record (held_of h) { chunks = c' } ∷ [])) (sym (set_as seen items vol was value new)) (master_kept state block (map seen items) (held_of h) kept_h vol (seen was) there disk test at bytes c' (seen new) w.stays w.disks w.settled)
 
-        pub exit_writes : WritesBelow (below_of g) vol at bytes result (below_of (as_group state block (map seen (set items vol new)) (record (held_of h) { chunks = c' } ∷ [])))
+        pub exit_writes : WritesBelow ⊤ (below_of g) vol at bytes result (below_of (as_group state block (map seen (set items vol new)) (record (held_of h) { chunks = c' } ∷ [])))
         exit_writes =
-            subst (λ (x : IiDisks). WritesBelow (below_of x) vol at bytes result (below_of (as_group state block (map seen (set items vol new)) (record (held_of h) { chunks = c' } ∷ [])))) view_h
-            (subst (λ (x : IiDisks). WritesBelow (below_of (as_group state block (map seen items) (held_of h ∷ []))) vol at bytes result (below_of x)) (after_as new (record (held_of h) { chunks = c' } ∷ []))
+            subst (λ (x : IiDisks). WritesBelow ⊤ (below_of x) vol at bytes result (below_of (as_group state block (map seen (set items vol new)) (record (held_of h) { chunks = c' } ∷ [])))) view_h
+            (subst (λ (x : IiDisks). WritesBelow ⊤ (below_of (as_group state block (map seen items) (held_of h ∷ []))) vol at bytes result (below_of x)) (after_as new (record (held_of h) { chunks = c' } ∷ []))
             (master_writes state block (map seen items) (held_of h) kept_h vol (seen was) there disk test at bytes c' (seen new) w.stays w.disks w.settled result w))
 
         pub exit_wrote : WroteRest (rest_of g) vol at bytes (is_ok result) (rest_of (as_group state block (map seen (set items vol new)) (record (held_of h) { chunks = c' } ∷ [])))
@@ -128,10 +129,10 @@ module _ {A D : Type 0} (seen : A → Seen) (state : Seen) (block : GroupBlock) 
     pub plain_kept : (sets : List HeldSet) → IsKept state block (map seen items) sets → IsKept state block (map seen (set items vol new)) sets
     plain_kept sets kept = subst (λ (l : List Seen). IsKept state block l sets) (sym (set_as seen items vol was value new)) (v_kept state block (map seen items) sets vol (seen was) (seen new) there disk w.size kept)
 
-    pub plain_writes : (sets : List HeldSet) → sets_of o ≡ sets → WritesBelow (below_of g) vol at bytes result (below_of (as_group state block (map seen (set items vol new)) sets))
+    pub plain_writes : (sets : List HeldSet) → sets_of o ≡ sets → WritesBelow ⊤ (below_of g) vol at bytes result (below_of (as_group state block (map seen (set items vol new)) sets))
     plain_writes sets is =
-        subst (λ (x : IiDisks). WritesBelow (below_of x) vol at bytes result (below_of (as_group state block (map seen (set items vol new)) sets))) (ap (λ (l : List HeldSet). as_group state block (map seen items) l) (sym is) ∙ view)
-        (subst (λ (x : IiDisks). WritesBelow (below_of (as_group state block (map seen items) sets)) vol at bytes result (below_of x)) (after_as new sets)
+        subst (λ (x : IiDisks). WritesBelow ⊤ (below_of x) vol at bytes result (below_of (as_group state block (map seen (set items vol new)) sets))) (ap (λ (l : List HeldSet). as_group state block (map seen items) l) (sym is) ∙ view)
+        (subst (λ (x : IiDisks). WritesBelow ⊤ (below_of (as_group state block (map seen items) sets)) vol at bytes result (below_of x)) (after_as new sets)
         (v_writes state block (map seen items) sets vol (seen was) (seen new) there disk at bytes result w))
 
     pub plain_keeps : (sets : List HeldSet) → sets_of o ≡ sets → IsKept state block (map seen items) sets → Keeps g (as_group state block (map seen (set items vol new)) sets)
@@ -162,10 +163,10 @@ module _ {A D : Type 0} (seen : A → Seen) (state : Seen) (block : GroupBlock) 
   now_r : as_group state block (set (map seen items) vol (seen new)) (sets_of o) ≡ as_group state block (map seen (set items vol new)) (sets_of o)
   now_r = ap (λ (l : List Seen). as_group state block l (sets_of o)) (sym (set_as seen items vol was value new))
 
-  pub read_below : ReadsBelow (below_of g) vol at out result (below_of (as_group state block (map seen (set items vol new)) (sets_of o)))
+  pub read_below : ReadsBelow ⊤ (below_of g) vol at out result (below_of (as_group state block (map seen (set items vol new)) (sets_of o)))
   read_below =
-      subst (λ (x : IiDisks). ReadsBelow (below_of x) vol at out result (below_of (as_group state block (map seen (set items vol new)) (sets_of o)))) view
-      (subst (λ (x : IiDisks). ReadsBelow (below_of (as_group state block (map seen items) (sets_of o))) vol at out result (below_of x)) now_r
+      subst (λ (x : IiDisks). ReadsBelow ⊤ (below_of x) vol at out result (below_of (as_group state block (map seen (set items vol new)) (sets_of o)))) view
+      (subst (λ (x : IiDisks). ReadsBelow ⊤ (below_of (as_group state block (map seen items) (sets_of o))) vol at out result (below_of x)) now_r
       (v_reads state block (map seen items) (sets_of o) vol (seen was) (seen new) there_r disk_r at out result w))
 
   pub read_rest : rest_of (as_group state block (map seen (set items vol new)) (sets_of o)) ≡ rest_of g

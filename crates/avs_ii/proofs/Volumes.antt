@@ -1,5 +1,6 @@
 -- What a call on a volume makes of a group, by what it makes of the volumes and of the rest.
 use Rattle.std.proofs.Common.{◌≡◌, ℕ, ◌/◌, ◌<◌, ◌≤◌, Bool, true, false, not, cond, ◌&&◌, All, List, [], ◌∷◌, length, map, set, slice_index, slice_index_or, Option, Some, Result, Ok, Err, is_ok, OnOk, inl, inr, refl, sym, ◌∙◌, ap, subst, arith}
+use Rattle.std.specs.Bool.{⊤}
 use Rattle.std.proofs.lemmas.Bool.{cases_Bool}
 use Rattle.std.proofs.lemmas.List.{get_or-map, length-map}
 use Rattle.std.proofs.lemmas.Simd.{map-map}
@@ -141,7 +142,7 @@ module _ (state : Seen) (block : GroupBlock) (V V' : List Seen) (sets sets' : Li
         sym (map-map (λ (d : Seen). d.written) quiet V') ∙ c
         ∙ ap (λ (l : List ℕ). set l vol (counted (slice_index l vol) (length bytes / 512))) (map-map (λ (d : Seen). d.written) quiet V)
 
-    writes_volume : {T E : Type 0} (r : Result T E) → Keeps g g' → WritesBelow (below_of g) vol at bytes r (below_of g') → WroteRest (rest_of g) vol at bytes (is_ok r) (rest_of g') → WritesVolume g vol at bytes r g'
+    writes_volume : {T E : Type 0} (r : Result T E) → Keeps g g' → WritesBelow ⊤ (below_of g) vol at bytes r (below_of g') → WroteRest (rest_of g) vol at bytes (is_ok r) (rest_of g') → WritesVolume g vol at bytes r g'
     writes_volume (Ok x) keeps w rest = record {
       state = refl;
       block = refl;
@@ -184,8 +185,8 @@ module _ (state : Seen) (block : GroupBlock) (V V' : List Seen) (sets sets' : Li
       whole = keeps.whole;
     }
 
-    pub volume_exit : (x : IiDisks) → as_group state block V sets ≡ x → {T E : Type 0} (r : Result T E) → Keeps x (as_group state block V' sets') → WritesBelow (below_of x) vol at bytes r (below_of (as_group state block V' sets')) → WroteRest (rest_of x) vol at bytes (is_ok r) (rest_of (as_group state block V' sets')) → WritesVolume x vol at bytes r (as_group state block V' sets')
-    volume_exit x view r = subst (λ (y : IiDisks). Keeps y g' → WritesBelow (below_of y) vol at bytes r (below_of g') → WroteRest (rest_of y) vol at bytes (is_ok r) (rest_of g') → WritesVolume y vol at bytes r g') view (writes_volume r)
+    pub volume_exit : (x : IiDisks) → as_group state block V sets ≡ x → {T E : Type 0} (r : Result T E) → Keeps x (as_group state block V' sets') → WritesBelow ⊤ (below_of x) vol at bytes r (below_of (as_group state block V' sets')) → WroteRest (rest_of x) vol at bytes (is_ok r) (rest_of (as_group state block V' sets')) → WritesVolume x vol at bytes r (as_group state block V' sets')
+    volume_exit x view r = subst (λ (y : IiDisks). Keeps y g' → WritesBelow ⊤ (below_of y) vol at bytes r (below_of g') → WroteRest (rest_of y) vol at bytes (is_ok r) (rest_of g') → WritesVolume y vol at bytes r g') view (writes_volume r)
 
 -- ---- a read
 
@@ -206,7 +207,7 @@ module _ (state : Seen) (block : GroupBlock) (V V' : List Seen) (sets : List Hel
   image_is sound =
       ap (λ (l : List Image). slice_index_or l vol []) (sym (ap (λ (x : GroupState). x.volumes) (meaning_is state block V sets sound.holds) ∙ volumes_by block.slots block.note V sets one kept.held sound.disks state))
 
-  reads_volume : {T E : Type 0} (r : Result T E) → vol < length V → Keeps b b' → ReadsBelow (below_of b) vol at out r (below_of b') → rest_of b' ≡ rest_of b → on_each no_faults b' ≡ on_each no_faults b → ReadsVolume b vol out at r b'
+  reads_volume : {T E : Type 0} (r : Result T E) → vol < length V → Keeps b b' → ReadsBelow ⊤ (below_of b) vol at out r (below_of b') → rest_of b' ≡ rest_of b → on_each no_faults b' ≡ on_each no_faults b → ReadsVolume b vol out at r b'
   reads_volume r there keeps w rest same = record {
     rest = same;
     state = refl;
@@ -220,7 +221,7 @@ module _ (state : Seen) (block : GroupBlock) (V V' : List Seen) (sets : List Hel
         let k = kept_on state in
         group_rest k.slots k.note V' sets one ∙ ap (λ (x : IiRest). group_by k.slots k.note x.volumes x.sets) rest ∙ sym (group_rest k.slots k.note V sets one);
     sound = λ sound. record { holds = sound.holds; disks = rest_sound block.slots V' sets one (subst (λ (x : IiRest). IsSoundRest x) (sym rest) (sound_rest block.slots V sets one sound.disks)) };
-    shows = λ sound. shown r (told_at_volume there sound) (image_is sound) w.shows;
+    shows = λ sound. shown r (told_at_volume there sound) (image_is sound) (w.shows tt);
     shape = keeps.shape;
     still_steady = ap (λ (s : BelowSeen). s.steady) w.kept;
     told = keeps.told;
@@ -232,5 +233,5 @@ module _ (state : Seen) (block : GroupBlock) (V V' : List Seen) (sets : List Hel
       shown (Ok x) told is shows = shows told ∙ ap (λ (i : Image). range i at (length out / 512)) is
       shown (Err f) told is shows = tt
 
-  pub read_exit : (x : IiDisks) → as_group state block V sets ≡ x → {T E : Type 0} (r : Result T E) → vol < length V → Keeps x (as_group state block V' sets) → ReadsBelow (below_of x) vol at out r (below_of (as_group state block V' sets)) → rest_of (as_group state block V' sets) ≡ rest_of x → on_each no_faults (as_group state block V' sets) ≡ on_each no_faults x → ReadsVolume x vol out at r (as_group state block V' sets)
-  read_exit x view r = subst (λ (y : IiDisks). vol < length V → Keeps y b' → ReadsBelow (below_of y) vol at out r (below_of b') → rest_of b' ≡ rest_of y → on_each no_faults b' ≡ on_each no_faults y → ReadsVolume y vol out at r b') view (reads_volume r)
+  pub read_exit : (x : IiDisks) → as_group state block V sets ≡ x → {T E : Type 0} (r : Result T E) → vol < length V → Keeps x (as_group state block V' sets) → ReadsBelow ⊤ (below_of x) vol at out r (below_of (as_group state block V' sets)) → rest_of (as_group state block V' sets) ≡ rest_of x → on_each no_faults (as_group state block V' sets) ≡ on_each no_faults x → ReadsVolume x vol out at r (as_group state block V' sets)
+  read_exit x view r = subst (λ (y : IiDisks). vol < length V → Keeps y b' → ReadsBelow ⊤ (below_of y) vol at out r (below_of b') → rest_of b' ≡ rest_of y → on_each no_faults b' ≡ on_each no_faults y → ReadsVolume y vol out at r b') view (reads_volume r)

@@ -14,7 +14,7 @@ use Rattle.avs_model.specs.Shadows.{GroupState, GroupStage, after_stages, Stoppe
 use Rattle.avs_chunk.specs.ChunkSet.{ChunkSet}
 use Rattle.avs_ii.specs.Held.{HeldSet, IiDisks, enabled_in, pending_in}
 use Rattle.avs_ii.specs.Meaning.{group_by, kept_on}
-use Rattle.avs_ii.specs.Sound.{AreSound, IsFindable, state_label}
+use Rattle.avs_ii.specs.Sound.{IsSound, AreSound, IsFindable, state_label}
 use Rattle.avs_ii.specs.Calls.{faults_of, armed_of, are_steady, written_on, written_after}
 
 -- whether two slots are the same
@@ -57,7 +57,7 @@ pub record IiRest : Type 0 where
   pub sets : List HeldSet
 
 abbrev pub quiet : Seen → Seen
-quiet d = record d { faults = 0; armed = false }
+quiet d = record d { faults = 0; armed = false; tear = None }
 
 abbrev pub quiet_chunks : ChunkSet → ChunkSet
 quiet_chunks s = record s { shadow = option_map quiet s.shadow; areas = record s.areas { disk = quiet s.areas.disk } }
@@ -79,6 +79,10 @@ IsSoundRest rest = AreSound rest.slots rest.volumes rest.sets
 -- each enabled set of the rest is found again
 abbrev pub AreFindable : IiRest → Type 0
 AreFindable rest = All IsFindable (enabled_in rest.slots rest.sets)
+
+-- its disks are whole, and its memory is in step with them
+abbrev pub IsSoundBelow : IiDisks → Type 0
+IsSoundBelow g = IsSound g
 
 -- the stages of a write to a volume
 abbrev pub write_stages : IiRest → ℕ → ℕ → List ℕ → List GroupStage

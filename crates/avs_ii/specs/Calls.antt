@@ -5,7 +5,8 @@ use Rattle.std.specs.Option.{option_map, option_map_or}
 use Rattle.avs_seg.specs.Image.{blocks_of, range}
 use Rattle.avs_seg.specs.Segment.{first_segment}
 use Rattle.avs_dev.specs.Devices.{NoneFell, OneRose, UsesOneTear}
-use Rattle.avs_dev.specs.Seen.{Seen, IsTold, Writes}
+use Rattle.avs_dev.specs.Seen.{Seen, IsTold, Writes, with_tear}
+use Rattle.avs_dev.specs.declared.disk.Tear.{Tear}
 use Rattle.avs_dev.specs.Memory.{counted}
 use Rattle.avs_dev.specs.declared.back.Why.{Why}
 use Rattle.avs_dev.specs.declared.back.Why.TheVariants as why
@@ -47,7 +48,7 @@ on_each f g = record g { state = f g.state; volumes = map f g.volumes; sets = ma
 
 -- a disk without the tear that may be armed on it
 abbrev pub no_tear : Seen → Seen
-no_tear d = record d { armed = false }
+no_tear d = record d { armed = false; tear = None }
 
 -- The calls on contents tell at both exits that the shape stays, that disks which tell their blocks go on to do so, and that
 -- the group is found again on them, whatever this call and those before it answered.
@@ -297,10 +298,10 @@ pub record WritesVolume {T E : Type 0} (old : IiDisks) (volume at : ℕ) (bytes 
   pub told : AreTold (parts_of old) → AreTold (parts_of new)
   pub whole : IsFoundAgain old new
 
--- a tear is armed on one of the disks, and no more changes; where none is, nothing does
-pub record ArmsGroup (old : IiDisks) (disk : ℕ) (result : Bool) (new : IiDisks) : Type 0 where
+-- this tear is armed on one of the disks, and no more changes; where none is, nothing does
+pub record ArmsGroup (old : IiDisks) (disk : ℕ) (tear : Tear) (result : Bool) (new : IiDisks) : Type 0 where
   pub answer : result ≡ option_map_or (λ d. d.arms) (slice_get (disks_of old) disk) false
-  pub armed : IsTrue result → disks_of new ≡ slice_set (disks_of old) disk (record (slice_index_or (disks_of old) disk old.state) { armed = true })
+  pub armed : IsTrue result → disks_of new ≡ slice_set (disks_of old) disk (with_tear tear (slice_index_or (disks_of old) disk old.state))
   pub unarmed : IsTrue (not result) → new ≡ old
   pub rest : on_each no_tear new ≡ on_each no_tear old
   pub block : new.block ≡ old.block

@@ -1,5 +1,5 @@
 // A group of volumes and its shadow sets.
-ghost use Rattle.std.specs.Prelude.{◌≡◌, ℕ, ◌+◌, ◌*◌, ◌/◌, ◌<◌, ◌≤◌, IfOk, IfErr, IfSome, IfNone, IsTrue, OnOk, OnErr, All, None, true, false, not, [], map, length, slice_get, slice_set, vec_len, vec_capacity, is_ok, find, ◌==◌};
+ghost use Rattle.std.specs.Prelude.{◌≡◌, ℕ, ◌+◌, ◌*◌, ◌/◌, ◌<◌, ◌≤◌, IfOk, IfErr, IfSome, IfNone, IsTrue, OnOk, OnErr, All, None, true, false, not, [], map, length, slice_get, slice_set, vec_len, vec_capacity, is_ok, find, ◌==◌, ⊤};
 ghost use Rattle.std.specs.List.{list_all};
 ghost use Rattle.std.specs.Option.{option_map};
 ghost use Rattle.avs_dev.specs.Below.{IsNoteTold, IsRangeOf, ReadsBelow, WritesBelow};
@@ -289,7 +289,7 @@ impl<D: Disk> IiGroup<D> {
     // Reads blocks of a volume.
     fn read_at(&mut self, volume: u32, at: u32, out: &mut [u8]) -> Result<(), Failed>
         requires { IsRangeOf (below_of self.old) volume at (length out.old) }
-        ensures reads { ReadsBelow (below_of self.old) volume at out.new result (below_of self.new) }
+        ensures reads { ReadsBelow ⊤ (below_of self.old) volume at out.new result (below_of self.new) }
         ensures rest { rest_of self.new ≡ rest_of self.old }
         ensures volume { ReadsVolume self.old volume out.new at result self.new }
     {
@@ -299,7 +299,7 @@ impl<D: Disk> IiGroup<D> {
     // Writes blocks of a volume. Where a set of it is enabled, the set's chunks are saved first.
     fn write_at(&mut self, volume: u32, at: u32, bytes: &[u8]) -> Result<(), Failed>
         requires { IsRangeOf (below_of self.old) volume at (length bytes.now) }
-        ensures writes { WritesBelow (below_of self.old) volume at bytes.now result (below_of self.new) }
+        ensures writes { WritesBelow ⊤ (below_of self.old) volume at bytes.now result (below_of self.new) }
         ensures wrote { WroteRest (rest_of self.old) volume at bytes.now (is_ok result) (rest_of self.new) }
         ensures volume { WritesVolume self.old volume at bytes.now result self.new }
     {
@@ -409,7 +409,7 @@ impl<D: Disk> IiGroup<D> {
     pub fn arm(&mut self, disk: u32, tear: Tear) -> bool
     where
         D: Arm,
-        ensures { ArmsGroup self.old disk result self.new }
+        ensures { ArmsGroup self.old disk tear result self.new }
     {
         if disk == 0 {
             return self.state.arm(tear);
@@ -547,7 +547,7 @@ fn closed<D: Disk>(
 impl<D: Disk> Below for IiGroup<D> {
     ghost use Rattle.std.specs.Prelude.{is_ok};
     ghost use Rattle.avs_dev.specs.Below.{Counts, IsRangeOf, ReadsBelow, WritesBelow, SetsNote, size_of};
-    ghost use Rattle.avs_ii.specs.AsBelow.{below_of, IiRest, rest_of, WroteRest};
+    ghost use Rattle.avs_ii.specs.AsBelow.{below_of, IiRest, rest_of, IsSoundBelow, WroteRest};
 
     ghost seen = { below_of };
 
@@ -557,6 +557,8 @@ impl<D: Disk> Below for IiGroup<D> {
     ghost rest = { rest_of };
 
     ghost wrote = { WroteRest };
+
+    ghost IsSound = { IsSoundBelow };
 
     fn count(&self) -> u32 {
         self.volumes.len() as u32

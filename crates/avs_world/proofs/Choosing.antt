@@ -11,8 +11,8 @@ use Rattle.avs_model.specs.Limits.{bitmap_blocks, most_sets}
 use Rattle.avs_model.specs.State.{State, HostState, VolumeState, ShadowGroup, Use, volume_of, size_of, is_spent, use_of, role_of, are_disks_used}
 use Rattle.avs_model.specs.State as state
 use Rattle.avs_model.specs.Refusals.{enable_causes, first_cause, may_be_master, is_alone, sets_on}
-use Rattle.avs_model.specs.declared.answer.Role.{Role}
-use Rattle.avs_model.specs.declared.answer.Role.TheVariants.{Master, Shadow, Bitmap, Plain}
+use Rattle.avs_world.specs.declared.group.Part.{Part}
+use Rattle.avs_world.specs.declared.group.Part.TheVariants.{Master, Shadow, Bitmap, Plain}
 use Rattle.avs_model.specs.declared.answer.Refusal.{Refusal}
 use Rattle.avs_model.specs.declared.answer.Refusal.TheVariants.{NoVolume, BusyVolume, Size, Limit, NoContents}
 use Rattle.avs_world.specs.declared.place.Place.{Place}
@@ -22,7 +22,7 @@ use Rattle.avs_ii.specs.Held.{IiDisks}
 use Rattle.avs_world.specs.declared.group.ShadowSet.{ShadowSet}
 use Rattle.avs_world.specs.Views.{GroupView, NoGroup, FreeDisk, InMemory, OnDisks, StoreView}
 use Rattle.avs_world.specs.Holds.{Shown, shown, Holds, HoldsBy, AreHere, IsPhase, name_at, disks_made}
-use Rattle.avs_world.specs.Ranges.{role_by, is_gone, reach_by, reach}
+use Rattle.avs_world.specs.Ranges.{role_by, is_gone, reach_by, reach, told_as}
 use Rattle.avs_world.specs.Places.{place_of}
 use Rattle.avs_world.specs.Enabling.{IsNamedTarget, IsFree, HasNoFree, GroupRefused, IsChosen, may_lead, is_plain, role_causes, target_causes, size_causes}
 use Rattle.avs_world.proofs.Holding.{element, use_as, use_by_place, volume_named, name_there, is_at, found_plain}
@@ -45,19 +45,19 @@ first_there (x ∷ xs) ys is = elim (cases_Bool x.0) [
 ]
 
 -- what a use says of a role
-leads : (role : Role) → may_be_master (use_as role) ≡ may_lead role
+leads : (role : Part) → may_be_master (use_as role) ≡ may_lead role
 leads Master = refl
 leads Shadow = refl
 leads Bitmap = refl
 leads Plain = refl
 
-alone : (role : Role) → is_alone (use_as role) ≡ is_plain role
+alone : (role : Part) → is_alone (use_as role) ≡ is_plain role
 alone Master = refl
 alone Shadow = refl
 alone Bitmap = refl
 alone Plain = refl
 
-same_role : (role : Role) → state.role_by (use_as role) ≡ role
+same_role : (role : Part) → state.role_by (use_as role) ≡ told_as role
 same_role Master = refl
 same_role Shadow = refl
 same_role Bitmap = refl
@@ -68,7 +68,7 @@ abbrev pub last_causes : HostState → List ℕ → List (Bool × Refusal)
 last_causes held master = (not (nat_lt (sets_on held) most_sets), Limit most_sets) ∷ (is_spent held master, NoContents) ∷ []
 
 -- the causes where the three volumes are there, by their roles
-causes_by : (held : HostState) (master shadow bitmap : List ℕ) (m s b : Role) (s_twice b_twice : Bool) → is_some (volume_of held master) ≡ true → is_some (volume_of held shadow) ≡ true → is_some (volume_of held bitmap) ≡ true
+causes_by : (held : HostState) (master shadow bitmap : List ℕ) (m s b : Part) (s_twice b_twice : Bool) → is_some (volume_of held master) ≡ true → is_some (volume_of held shadow) ≡ true → is_some (volume_of held bitmap) ≡ true
     → use_of held master ≡ use_as m → use_of held shadow ≡ use_as s → use_of held bitmap ≡ use_as b → bytes_eq shadow master ≡ s_twice → (bytes_eq bitmap master || bytes_eq bitmap shadow) ≡ b_twice
     → first_cause (enable_causes held master shadow bitmap)
     ≡ first_cause (role_causes m s b s_twice b_twice ++ size_causes (size_of held master) (size_of held shadow) (size_of held bitmap) ++ last_causes held master)
@@ -76,9 +76,9 @@ causes_by held master shadow bitmap m s b s_twice b_twice has_m has_s has_b use_
     let lead : may_be_master (use_of held master) ≡ may_lead m = ap may_be_master use_m ∙ leads m in
     let alone_s : is_alone (use_of held shadow) ≡ is_plain s = ap is_alone use_s ∙ alone s in
     let alone_b : is_alone (use_of held bitmap) ≡ is_plain b = ap is_alone use_b ∙ alone b in
-    let role_m : role_of held master ≡ m = ap state.role_by use_m ∙ same_role m in
-    let role_s : role_of held shadow ≡ s = ap state.role_by use_s ∙ same_role s in
-    let role_b : role_of held bitmap ≡ b = ap state.role_by use_b ∙ same_role b in
+    let role_m : role_of held master ≡ told_as m = ap state.role_by use_m ∙ same_role m in
+    let role_s : role_of held shadow ≡ told_as s = ap state.role_by use_s ∙ same_role s in
+    let role_b : role_of held bitmap ≡ told_as b = ap state.role_by use_b ∙ same_role b in
     let busy : ((not (is_alone (use_of held bitmap)) || bytes_eq bitmap master) || bytes_eq bitmap shadow) ≡ (not (is_plain b) || b_twice) =
     or_assoc (not (is_alone (use_of held bitmap))) (bytes_eq bitmap master) (bytes_eq bitmap shadow) ∙ (λ i. not (alone_b i) || twice_b i) in
     let rest = size_causes (size_of held master) (size_of held shadow) (size_of held bitmap) ++ last_causes held master in
@@ -133,18 +133,18 @@ neither false b is = (refl, is)
 neither true b is = absurd (false≢true (sym is))
 
 -- the volumes may be those of a set, and they differ
-record MayServe (m s b : Role) (s_twice b_twice : Bool) : Type 0 where
+record MayServe (m s b : Part) (s_twice b_twice : Bool) : Type 0 where
   master : may_lead m ≡ true
   shadow : is_plain s ≡ true
   bitmap : is_plain b ≡ true
   shadow_once : s_twice ≡ false
   bitmap_once : b_twice ≡ false
 
-may_serve : (m s b : Role) (s_twice b_twice : Bool) → first_cause (role_causes m s b s_twice b_twice) ≡ None → MayServe m s b s_twice b_twice
+may_serve : (m s b : Part) (s_twice b_twice : Bool) → first_cause (role_causes m s b s_twice b_twice) ≡ None → MayServe m s b s_twice b_twice
 may_serve m s b s_twice b_twice is =
-    let for_shadow : Bool × Refusal = (not (is_plain s) || s_twice, BusyVolume s) in
-    let for_bitmap : Bool × Refusal = (not (is_plain b) || b_twice, BusyVolume b) in
-    let first = first_none (not (may_lead m), BusyVolume m) (for_shadow ∷ for_bitmap ∷ []) is in
+    let for_shadow : Bool × Refusal = (not (is_plain s) || s_twice, BusyVolume (told_as s)) in
+    let for_bitmap : Bool × Refusal = (not (is_plain b) || b_twice, BusyVolume (told_as b)) in
+    let first = first_none (not (may_lead m), BusyVolume (told_as m)) (for_shadow ∷ for_bitmap ∷ []) is in
     let second = first_none for_shadow (for_bitmap ∷ []) first.1 in
     let third = first_none for_bitmap [] second.1 in
     let shadows = neither (not (is_plain s)) s_twice second.0 in
@@ -157,13 +157,13 @@ may_serve m s b s_twice b_twice is =
       bitmap_once = bitmaps.1;
     }
 
-role_plain : (role : Role) → is_plain role ≡ true → role ≡ Plain
+role_plain : (role : Part) → is_plain role ≡ true → role ≡ Plain
 role_plain Plain is = refl
 role_plain Master is = absurd (false≢true is)
 role_plain Shadow is = absurd (false≢true is)
 role_plain Bitmap is = absurd (false≢true is)
 
-role_leads : (role : Role) → may_lead role ≡ true → (role ≡ Plain) ⊎ (role ≡ Master)
+role_leads : (role : Part) → may_lead role ≡ true → (role ≡ Plain) ⊎ (role ≡ Master)
 role_leads Plain is = inl refl
 role_leads Master is = inr refl
 role_leads Shadow is = absurd (false≢true is)

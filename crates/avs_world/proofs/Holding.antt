@@ -16,8 +16,8 @@ use Rattle.avs_world.specs.Ranges.{disk_here, is_gone, size_here}
 use Rattle.avs_world.specs.Holds.{IsStateDisk, IsOpen}
 use Rattle.avs_model.specs.Shadows.{GroupState}
 use Rattle.avs_model.specs.State.{State, VolumeState, HostState, ShadowGroup, Use, Alone, MasterIn, ShadowIn, BitmapIn, first_use, or_use, use_from, use_of, volume_of, size_of, is_spent, blocks_on}
-use Rattle.avs_model.specs.declared.answer.Role.{Role}
-use Rattle.avs_model.specs.declared.answer.Role.TheVariants.{Master, Shadow, Bitmap, Plain}
+use Rattle.avs_world.specs.declared.group.Part.{Part}
+use Rattle.avs_world.specs.declared.group.Part.TheVariants.{Master, Shadow, Bitmap, Plain}
 use Rattle.avs_model.proofs.Volumes.{position_or_len-map, position_some, position_none, place_or_count, volume_of-place}
 use Rattle.avs_ii.specs.Held.{IiDisks}
 use Rattle.avs_ii.specs.Meaning.{meaning}
@@ -283,7 +283,7 @@ module _ (steady : Bool) (names : List (List ℕ)) (host : HostState) (places : 
 -- What a volume serves as.
 
 -- the use of a volume of the one set
-abbrev pub use_as : Role → Use
+abbrev pub use_as : Part → Use
 use_as Master = MasterIn 0 0
 use_as Shadow = ShadowIn 0 0
 use_as Bitmap = BitmapIn 0 0

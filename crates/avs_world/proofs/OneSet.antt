@@ -10,8 +10,8 @@ use Rattle.avs_dev.specs.Seen.{Seen}
 use Rattle.avs_code.specs.declared.slot_table.Slot.{Slot}
 use Rattle.avs_model.specs.Shadows.{ShadowState, blocks_at}
 use Rattle.avs_model.specs.State.{HostState, VolumeState}
-use Rattle.avs_model.specs.declared.answer.Role.{Role}
-use Rattle.avs_model.specs.declared.answer.Role.TheVariants.{Master, Shadow, Bitmap, Plain}
+use Rattle.avs_world.specs.declared.group.Part.{Part}
+use Rattle.avs_world.specs.declared.group.Part.TheVariants.{Master, Shadow, Bitmap, Plain}
 use Rattle.avs_model.specs.declared.shadow.Kind.TheVariants.{Dep}
 use Rattle.avs_ii.specs.SetDisks.{SetDisks}
 use Rattle.avs_ii.specs.Held.{HeldSet, IiDisks, is_live, enabled_in, set_at}
@@ -87,7 +87,7 @@ module _ (set : ShadowSet) (disks : FourDisks) (held : IiDisks) (is : IsOneSet s
 
 -- the places of the volumes of a set by what they serve as
 module _ (set : ShadowSet) (k : ℕ) where
-  cases_role : (m s b : Bool) (role : Role) → (k == set.master) ≡ m → (k == set.shadow) ≡ s → (k == set.bitmap) ≡ b → (if m then Master else if s then Shadow else if b then Bitmap else Plain) ≡ role
+  cases_role : (m s b : Bool) (role : Part) → (k == set.master) ≡ m → (k == set.shadow) ≡ s → (k == set.bitmap) ≡ b → (if m then Master else if s then Shadow else if b then Bitmap else Plain) ≡ role
       → ((role ≡ Master → k ≡ set.master) × ((role ≡ Shadow → k ≡ set.shadow) × (role ≡ Bitmap → k ≡ set.bitmap)))
   cases_role true s b role at_m at_s at_b is = (λ _. eqb-true k set.master at_m, (λ e. absurd (cc), λ e. absurd (cc)))
   cases_role false true b role at_m at_s at_b is = (λ e. absurd (cc), (λ _. eqb-true k set.shadow at_s, λ e. absurd (cc)))

@@ -14,8 +14,8 @@ use Rattle.avs_dev.specs.Devices.{OneRose}
 use Rattle.avs_dev.specs.Seen.{Seen, IsTold, Reads}
 use Rattle.avs_model.specs.Shadows.{GroupState, image_at, volume_image}
 use Rattle.avs_model.specs.State.{State, VolumeState, HostState, ShadowGroup, Alone, MasterIn, ShadowIn, use_of, image_by, image_of}
-use Rattle.avs_model.specs.declared.answer.Role.{Role}
-use Rattle.avs_model.specs.declared.answer.Role.TheVariants.{Master, Shadow, Plain}
+use Rattle.avs_world.specs.declared.group.Part.{Part}
+use Rattle.avs_world.specs.declared.group.Part.TheVariants.{Master, Shadow, Plain}
 use Rattle.avs_model.specs.declared.answer.Refusal.{Refusal}
 use Rattle.avs_model.specs.declared.answer.Refusal.TheVariants.{Fault}
 use Rattle.avs_ii.specs.Held.{HeldSet, IiDisks, disks_of, set_at}
@@ -63,8 +63,8 @@ module _ (store : StoreView) (target : Target) (at len : ℕ) (reached : IsReach
   pub reached_some : 0 < at + len / 512
   reached_some = omega (arith, reached.some, reached.whole)
 
-  pub reached_as : (role : Role) → target.role ≡ role → at + len / 512 ≤ reach store (record target { role = role })
-  reached_as role is = subst (λ (r : Role). at + len / 512 ≤ reach store (record target { role = r })) is reached.inside
+  pub reached_as : (role : Part) → target.role ≡ role → at + len / 512 ≤ reach store (record target { role = role })
+  reached_as role is = subst (λ (r : Part). at + len / 512 ≤ reach store (record target { role = r })) is reached.inside
 
   pub plain_range : target.role ≡ Plain → HasRange store.places target.place at len
   plain_range is =
@@ -282,7 +282,7 @@ module _ (steady : Bool) (store : StoreView) (set : ShadowSet) (held : IiDisks) 
   pub only_group : AreGroups steady store.names set (meaning held) group_by.1.disks.state true state.p.groups
   only_group = open_groups steady store.names store.places set held state.p.volumes state.p.groups group_by.0 group_by.1
 
-  pub used_as : (target : Target) (role : Role) (name : List ℕ) (at len : ℕ) → IsReached store target at len → target.role ≡ role → IsOf store target name → use_of state.p name ≡ use_as role
+  pub used_as : (target : Target) (role : Part) (name : List ℕ) (at len : ℕ) → IsReached store target at len → target.role ≡ role → IsOf store target name → use_of state.p name ≡ use_as role
   used_as target role name at len reached role_is sought =
       use_in_set store.names state.p set (meaning held) only_group.0 only_group.1 name target.place group_by.1.set_of sought
       ∙ ap use_as (ap (λ (g : GroupView). role_by g target.place) (sym is) ∙ sym reached.is ∙ role_is)

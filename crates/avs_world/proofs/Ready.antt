@@ -10,8 +10,8 @@ use Rattle.avs_model.specs.State.{State, HostState, VolumeState, ShadowGroup, Us
 use Rattle.avs_model.specs.State as state
 use Rattle.avs_model.specs.Shadows.{bare_group, blocks_at}
 use Rattle.avs_model.specs.Refusals.{is_bitmap}
-use Rattle.avs_model.specs.declared.answer.Role.{Role}
-use Rattle.avs_model.specs.declared.answer.Role.TheVariants.{Master, Shadow, Bitmap, Plain}
+use Rattle.avs_world.specs.declared.group.Part.{Part}
+use Rattle.avs_world.specs.declared.group.Part.TheVariants.{Master, Shadow, Bitmap, Plain}
 use Rattle.avs_ii.specs.Held.{HeldSet}
 use Rattle.avs_ii.specs.Parts.{parts_of}
 use Rattle.avs_world.specs.declared.place.Place.{Place}
@@ -23,7 +23,7 @@ use Rattle.avs_world.proofs.OneSet.{one_held, set_there, blocks_meant, found_mas
 use Rattle.avs_world.proofs.Ranging.{IsReady}
 
 -- only contents of a volume that serves as nothing are gone
-abbrev pub gone_as : Role → Bool → Bool
+abbrev pub gone_as : Part → Bool → Bool
 gone_as Plain gone = gone
 gone_as Master gone = false
 gone_as Shadow gone = false
@@ -63,13 +63,13 @@ module _ (steady : Bool) (store : StoreView) (s : State) (name : List ℕ) (k : 
   pub volume_is : is_some (volume_of s.p name) ≡ true
   volume_is = ap is_some (volume_named store.names s.p holds.same_names name k sought).named
 
-  used_as : (role : Role) → role_by store.group k ≡ role → use_of s.p name ≡ use_as role
+  used_as : (role : Part) → role_by store.group k ≡ role → use_of s.p name ≡ use_as role
   used_as role is = use_by_place steady store s name k holds phase sought ∙ ap use_as is
 
   pub is_busy : role_by store.group k ≡ Bitmap → is_bitmap (use_of s.p name) ≡ true
   is_busy is = ap is_bitmap (used_as Bitmap is)
 
-  pub ready_as : (role : Role) → role_by store.group k ≡ role → is_bitmap (use_as role) ≡ false → k < length store.places
+  pub ready_as : (role : Part) → role_by store.group k ≡ role → is_bitmap (use_as role) ≡ false → k < length store.places
       → IsReady s.p name (reach_by store k role) (gone_as role (is_gone (slice_get store.places k)))
   ready_as Plain is other within =
       let at = element store.places k within in

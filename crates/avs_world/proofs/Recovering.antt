@@ -25,7 +25,7 @@ use Rattle.avs_model.specs.declared.event.Event.TheVariants.{Volume, Write, Read
 use Rattle.avs_model.specs.declared.recovered.Second.{Second}
 use Rattle.avs_model.specs.declared.recovered.Second.TheVariants.{Torn, Kept, Done, Clean}
 use Rattle.avs_model.specs.declared.recovered.Recovered.{Recovered}
-use Rattle.avs_model.specs.declared.answer.Role.{Role}
+use Rattle.avs_world.specs.declared.group.Part.{Part}
 use Rattle.avs_model.specs.declared.answer.Word.TheVariants.{Up}
 use Rattle.avs_model.specs.declared.answer.Refusal.TheVariants.{WrongState}
 use Rattle.avs_model.specs.declared.answer.Answer.{Answer}
@@ -165,7 +165,7 @@ module _ (s left : State) (dependent : Bool) (master shadow bitmap : List ℕ) (
       let set_of = by.1.set_of in
       let name : shadow ≡ name_at names set.shadow = sym (enabled_name (group_with names set (meaning held) is.0) stopped is.1) ∙ set_of.named in
       let used = use_in_set names left.p set (meaning held) is.0 is.1 (name_at names set.shadow) set.shadow set_of set_of.shadow_there in
-      let has : has_set left.p shadow ≡ true = ap (has_set left.p) name ∙ ap is_set used ∙ ap (λ (r : Role). is_set (use_as r)) (role_shadow set set_of.shadow_differs) in
+      let has : has_set left.p shadow ≡ true = ap (has_set left.p) name ∙ ap is_set used ∙ ap (λ (r : Part). is_set (use_as r)) (role_shadow set set_of.shadow_differs) in
       sym (ap (λ (b : Bool). if b then Done else Kept) has)
   command_by steady names places (OnDisks set parts) by phase stopped = absurd (false≢true (sym phase))
 

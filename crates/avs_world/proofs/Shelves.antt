@@ -7,6 +7,7 @@ use Rattle.std.proofs.lemmas.Bool.{cases_lt}
 use Rattle.std.proofs.lemmas.Option.{slice_get-map, slice_get_read, slice_get_past, get_or_from_slice_get}
 use Rattle.std.proofs.lemmas.List.{map-set, length-map}
 use Rattle.avs_dev.specs.Seen.{Seen, Arms}
+use Rattle.avs_dev.specs.declared.disk.Tear.{Tear}
 use Rattle.avs_world.proofs.Holding.{set_back}
 use Rattle.avs_world.specs.declared.place.Place.{Place}
 use Rattle.avs_world.specs.declared.place.Place.TheVariants.{Lent}
@@ -40,17 +41,17 @@ module _ {D : Type 0} (seen : D → Seen) (items : List (Place D)) (k : ℕ) whe
       ∙ ap (λ (p : Place Seen). slice_set (map (place_view seen) items) k (with_disk p disk)) (sym (get_or_from_slice_get (map (place_view seen) items) k (place_view seen old) Lent (seen_there old there)))
 
   -- a tear is armed there
-  pub arms_there : (old new : Place D) (disk disk_new : Seen) (result : Bool) → slice_get items k ≡ Some old → disk_here (Some (place_view seen old)) ≡ Some disk
-      → place_view seen new ≡ with_disk (place_view seen old) disk_new → Arms disk result disk_new
-      → ArmsPlace (disk_here (slice_get (map (place_view seen) items) k)) (map (place_view seen) items) k result (map (place_view seen) (slice_set items k new))
-  arms_there old new disk disk_new result there here is arms =
-      subst (λ (o : Option Seen). ArmsPlace o (map (place_view seen) items) k result (map (place_view seen) (slice_set items k new))) (sym (disk_there old (Some disk) there here))
+  pub arms_there : (old new : Place D) (disk disk_new : Seen) (tear : Tear) (result : Bool) → slice_get items k ≡ Some old → disk_here (Some (place_view seen old)) ≡ Some disk
+      → place_view seen new ≡ with_disk (place_view seen old) disk_new → Arms disk tear result disk_new
+      → ArmsPlace (disk_here (slice_get (map (place_view seen) items) k)) (map (place_view seen) items) k tear result (map (place_view seen) (slice_set items k new))
+  arms_there old new disk disk_new tear result there here is arms =
+      subst (λ (o : Option Seen). ArmsPlace o (map (place_view seen) items) k tear result (map (place_view seen) (slice_set items k new))) (sym (disk_there old (Some disk) there here))
       (disk_new, arms, disk_placed old new disk_new there is)
 
-  pub arms_none : (p : Place D) → slice_get items k ≡ Some p → disk_here (Some (place_view seen p)) ≡ None
-      → ArmsPlace (disk_here (slice_get (map (place_view seen) items) k)) (map (place_view seen) items) k false (map (place_view seen) (slice_set items k p))
-  arms_none p there none =
-      subst (λ (o : Option Seen). ArmsPlace o (map (place_view seen) items) k false (map (place_view seen) (slice_set items k p))) (sym (disk_there p None there none))
+  pub arms_none : (tear : Tear) (p : Place D) → slice_get items k ≡ Some p → disk_here (Some (place_view seen p)) ≡ None
+      → ArmsPlace (disk_here (slice_get (map (place_view seen) items) k)) (map (place_view seen) items) k tear false (map (place_view seen) (slice_set items k p))
+  arms_none tear p there none =
+      subst (λ (o : Option Seen). ArmsPlace o (map (place_view seen) items) k tear false (map (place_view seen) (slice_set items k p))) (sym (disk_there p None there none))
       (refl, ap (map (place_view seen)) (set_back items k p there))
 
 -- a range is asked of a place that is there

@@ -10,7 +10,7 @@ use Rattle.avs_model.specs.State.{State, VolumeState, ShadowGroup, Use, Alone, O
 use Rattle.avs_model.specs.Stages.{write_stages, after_stages, StoppedIn}
 use Rattle.avs_model.specs.Right.{IsWrittenWith}
 use Rattle.avs_model.specs.declared.event.Host.TheVariants.{P}
-use Rattle.avs_model.specs.declared.answer.Role.TheVariants.{Plain}
+use Rattle.avs_world.specs.declared.group.Part.TheVariants.{Plain}
 use Rattle.avs_model.proofs.Volumes.{with_volume_of-place, volume_of-changed, changed_twice}
 use Rattle.avs_world.specs.declared.place.Place.{Place}
 use Rattle.avs_world.specs.declared.place.Place.TheVariants.{Here}

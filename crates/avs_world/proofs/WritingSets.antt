@@ -17,8 +17,8 @@ use Rattle.avs_model.specs.Right.{IsInGroup, IsWrittenWith}
 use Rattle.avs_model.specs.declared.event.Host.TheVariants.{P}
 use Rattle.avs_model.specs.declared.answer.Refusal.{Refusal}
 use Rattle.avs_model.specs.declared.answer.Refusal.TheVariants.{Fault}
-use Rattle.avs_model.specs.declared.answer.Role.{Role}
-use Rattle.avs_model.specs.declared.answer.Role.TheVariants.{Master, Shadow, Bitmap}
+use Rattle.avs_world.specs.declared.group.Part.{Part}
+use Rattle.avs_world.specs.declared.group.Part.TheVariants.{Master, Shadow, Bitmap}
 use Rattle.avs_model.proofs.Volumes.{with_volume_of-place}
 use Rattle.avs_world.proofs.Within.{holding, group_in, within, after_within, stopped_within}
 use Rattle.avs_ii.specs.Held.{IiDisks, disks_of, is_live, set_at}
@@ -195,7 +195,7 @@ module _ (steady : Bool) (old : StoreView) (set : ShadowSet) (held new : IiDisks
       unarm v = record v { armed = false }
 
       -- a tear of a volume of the set, which was armed and shows no more
-      torn_volume : (volume : List ℕ) (k : ℕ) (role : Role) (d : Shown) → position (bytes_eq volume) old.names ≡ Some k → role_in set k ≡ role → IsInGroup 0 (use_as role) → (f : Found steady state.p volume k d) → steady ≡ true → d.armed ≡ true
+      torn_volume : (volume : List ℕ) (k : ℕ) (role : Part) (d : Shown) → position (bytes_eq volume) old.names ≡ Some k → role_in set k ≡ role → IsInGroup 0 (use_as role) → (f : Found steady state.p volume k d) → steady ≡ true → d.armed ≡ true
           → shown_with old.places set disks true ≡ map (expected steady) (with_volume_of state.p.volumes volume unarm) → StopsWrite steady state name at blocks closed_store
       torn_volume volume k role d sought role_is in_group f is_steady was_armed shows =
           let use_is : use_of state.p volume ≡ use_as role = use_in_set old.names state.p set (meaning held) are.0 are.1 volume k by.1.set_of sought ∙ ap use_as role_is in
@@ -262,7 +262,7 @@ module _ (steady : Bool) (old : StoreView) (set : ShadowSet) (held new : IiDisks
 -- The stages of a write to the master, and to the shadow.
 module _ (steady : Bool) (store : StoreView) (set : ShadowSet) (held : IiDisks) (state : State) (is : store.group ≡ InMemory set held) (holds : Holds steady store state) (target : Target) (name : List ℕ) (at len : ℕ)
     (reached : IsReached store target at len) (sought : IsOf store target name) (blocks : Image) where
-  use_there : (role : Role) → target.role ≡ role → (host : HostState) → host.groups ≡ state.p.groups → use_of host name ≡ use_as role
+  use_there : (role : Part) → target.role ≡ role → (host : HostState) → host.groups ≡ state.p.groups → use_of host name ≡ use_as role
   use_there role role_is host groups =
       ap (λ (gs : List ShadowGroup). use_from 0 gs name) groups ∙ used_as steady store set held state is holds target role name at len reached role_is sought
 
@@ -278,7 +278,7 @@ module _ (steady : Bool) (store : StoreView) (set : ShadowSet) (held : IiDisks) 
 
   -- what is reached of the volume is as it was
   module _ (left : State) (new : GroupState) (groups : left.p.groups ≡ group_in (group_with store.names set (meaning held) (only_group steady store set held state is holds).0) new ∷ []) where
-    use_left : (role : Role) → target.role ≡ role → use_of left.p name ≡ use_as role
+    use_left : (role : Part) → target.role ≡ role → use_of left.p name ≡ use_as role
     use_left role role_is =
         ap (λ (gs : List ShadowGroup). use_from 0 gs name) groups
         ∙ sym (ap (λ (gs : List ShadowGroup). use_from 0 gs name) (only_group steady store set held state is holds).1)
@@ -295,7 +295,7 @@ module _ (steady : Bool) (store : StoreView) (set : ShadowSet) (held : IiDisks) 
         ∙ blocks_are
         ∙ sym (ap (reach_by state.p name) (use_there Shadow role state.p refl) ∙ ap (λ (gs : List ShadowGroup). reach_by (record state.p { groups = gs }) name (ShadowIn 0 0)) (only_group steady store set held state is holds).1)
 
-  written_in : (role : Role) → target.role ≡ role → (use_as role ≡ MasterIn 0 0) ⊎ (use_as role ≡ ShadowIn 0 0) → (volume : List ℕ) → IsInGroup 0 (use_of state.p volume) → IsWrittenWith state.p (use_of state.p name) name volume
+  written_in : (role : Part) → target.role ≡ role → (use_as role ≡ MasterIn 0 0) ⊎ (use_as role ≡ ShadowIn 0 0) → (volume : List ℕ) → IsInGroup 0 (use_of state.p volume) → IsWrittenWith state.p (use_of state.p name) name volume
   written_in role role_is (inl master) volume in_group =
       subst (λ (u : Use). IsWrittenWith state.p u name volume) (sym (use_there role role_is state.p refl ∙ master)) in_group
   written_in role role_is (inr shadow) volume in_group =

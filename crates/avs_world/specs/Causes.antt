@@ -4,8 +4,8 @@ use Rattle.std.specs.Option.{option_map_or, option_and_then}
 use Rattle.std.specs.Str.{bytes_eq}
 use Rattle.avs_seg.specs.Causes.{Rose}
 use Rattle.avs_dev.specs.Seen.{Seen}
-use Rattle.avs_model.specs.declared.answer.Role.{Role}
-use Rattle.avs_model.specs.declared.answer.Role.TheVariants.{Master, Shadow, Bitmap, Plain}
+use Rattle.avs_world.specs.declared.group.Part.{Part}
+use Rattle.avs_world.specs.declared.group.Part.TheVariants.{Master, Shadow, Bitmap, Plain}
 use Rattle.avs_model.specs.declared.event.ArmTarget.{ArmTarget}
 use Rattle.avs_model.specs.declared.event.ArmTarget.TheVariants as disk
 use Rattle.avs_model.specs.declared.answer.Word.TheVariants.{Unarmed}
@@ -53,7 +53,7 @@ FaultHasCause old new (Faulted host) = DiskRose old new
 FaultHasCause old new answer = ⊤
 
 -- the number of a group's disk that serves as that
-abbrev pub number_of : Role → ℕ
+abbrev pub number_of : Part → ℕ
 number_of Plain = 0
 number_of Master = 1
 number_of Shadow = 2
@@ -67,7 +67,7 @@ open_disks (InMemory set held) = disks_of held
 open_disks (OnDisks set parts) = []
 
 -- the disk of a volume, by its place and what it serves as
-abbrev pub role_disk : StoreView → ℕ → Role → Option Seen
+abbrev pub role_disk : StoreView → ℕ → Part → Option Seen
 role_disk store place Plain = disk_here (slice_get store.places place)
 role_disk store place Master = slice_get (open_disks store.group) (number_of Master)
 role_disk store place Shadow = slice_get (open_disks store.group) (number_of Shadow)

@@ -4,8 +4,8 @@ use Rattle.std.specs.Str.{bytes_eq}
 use Rattle.avs_dev.specs.Seen.{Seen}
 use Rattle.avs_dev.specs.Rack.{RackSeen, new_disk}
 use Rattle.avs_model.specs.Limits.{bitmap_blocks, most_sets}
-use Rattle.avs_model.specs.declared.answer.Role.{Role}
-use Rattle.avs_model.specs.declared.answer.Role.TheVariants.{Master, Shadow, Bitmap, Plain}
+use Rattle.avs_world.specs.declared.group.Part.{Part}
+use Rattle.avs_world.specs.declared.group.Part.TheVariants.{Master, Shadow, Bitmap, Plain}
 use Rattle.avs_model.specs.declared.answer.Refusal.{Refusal}
 use Rattle.avs_model.specs.declared.answer.Refusal.TheVariants.{BusyVolume, Size, Limit, NoMemory}
 use Rattle.avs_model.specs.declared.shadow.Kind.TheVariants.{Dep}
@@ -19,7 +19,7 @@ use Rattle.avs_world.specs.declared.group.ShadowSet.{ShadowSet}
 use Rattle.avs_world.specs.declared.enabling.Chosen.{Chosen}
 use Rattle.avs_world.specs.declared.ranges.Target.{Target}
 use Rattle.avs_world.specs.Views.{GroupView, NoGroup, FreeDisk, InMemory, OnDisks, StoreView, IsSameApart}
-use Rattle.avs_world.specs.Ranges.{IsTarget}
+use Rattle.avs_world.specs.Ranges.{IsTarget, told_as}
 use Rattle.avs_world.specs.Places.{place_of}
 
 -- the target is the volume of that name, with what it serves as
@@ -29,22 +29,25 @@ pub record IsNamedTarget (store : StoreView) (name : List ℕ) (target : Target)
   pub is : IsTarget store target
 
 -- what may be the master of a set, and what its shadow and its bitmap
-abbrev pub may_lead : Role → Bool
+abbrev pub may_lead : Part → Bool
 may_lead Plain = true
 may_lead Master = true
 may_lead Shadow = false
 may_lead Bitmap = false
 
-abbrev pub is_plain : Role → Bool
+abbrev pub is_plain : Part → Bool
 is_plain Plain = true
 is_plain Master = false
 is_plain Shadow = false
 is_plain Bitmap = false
 
 -- what three volumes are refused for by what they serve as, where some are the same
-abbrev pub role_causes : Role → Role → Role → Bool → Bool → List (Bool × Refusal)
+abbrev pub role_causes : Part → Part → Part → Bool → Bool → List (Bool × Refusal)
 role_causes master shadow bitmap shadow_twice bitmap_twice =
-    (not (may_lead master), BusyVolume master) ∷ (not (is_plain shadow) || shadow_twice, BusyVolume shadow) ∷ (not (is_plain bitmap) || bitmap_twice, BusyVolume bitmap) ∷ []
+    (not (may_lead master), BusyVolume (told_as master))
+    ∷ (not (is_plain shadow) || shadow_twice, BusyVolume (told_as shadow))
+    ∷ (not (is_plain bitmap) || bitmap_twice, BusyVolume (told_as bitmap))
+    ∷ []
 
 abbrev pub target_causes : Target → Target → Target → List (Bool × Refusal)
 target_causes master shadow bitmap =

@@ -1,6 +1,7 @@
 -- What each call on the shelf makes of the places of the disks.
 use Rattle.std.specs.Prelude.{◌≡◌, ℕ, Bool, false, if◌then◌else◌, Option, None, Some, List, Result, slice_get, slice_set, slice_index_or}
 use Rattle.avs_dev.specs.Seen.{Seen, IsRange, Reads, Writes, Arms}
+use Rattle.avs_dev.specs.declared.disk.Tear.{Tear}
 use Rattle.avs_world.specs.declared.place.Place.{Place}
 use Rattle.avs_world.specs.declared.place.Place.TheVariants.{Here, Spent, Lent}
 use Rattle.avs_world.specs.Ranges.{disk_here}
@@ -36,10 +37,10 @@ pub record WritesPlace {T E : Type 0} (old : List (Place Seen)) (place at : ℕ)
   pub writes : Writes disk at bytes result disk_new
   pub is : new ≡ places_with old place disk_new
 
--- a tear is armed on the disk at a place, where it is here; else nothing changes
-abbrev pub ArmsPlace : Option Seen → List (Place Seen) → ℕ → Bool → List (Place Seen) → Type 0
-ArmsPlace None old place result new = (result ≡ false) × (new ≡ old)
-ArmsPlace (Some disk) old place result new = (disk_new : Seen) × (Arms disk result disk_new) × (new ≡ places_with old place disk_new)
+-- this tear is armed on the disk at a place, where it is here; else nothing changes
+abbrev pub ArmsPlace : Option Seen → List (Place Seen) → ℕ → Tear → Bool → List (Place Seen) → Type 0
+ArmsPlace None old place tear result new = (result ≡ false) × (new ≡ old)
+ArmsPlace (Some disk) old place tear result new = (disk_new : Seen) × (Arms disk tear result disk_new) × (new ≡ places_with old place disk_new)
 
 -- a volume whose disk is here, by whether its contents are gone
 abbrev pub place_of : Bool → Seen → Place Seen

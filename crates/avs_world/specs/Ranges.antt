@@ -2,8 +2,10 @@
 use Rattle.std.specs.Prelude.{◌≡◌, ℕ, ◌+◌, ◌*◌, ◌/◌, ◌==◌, ◌<◌, ◌≤◌, Bool, true, false, if◌then◌else◌, Option, None, Some, List, length, slice_get}
 use Rattle.std.specs.Option.{option_map_or}
 use Rattle.avs_dev.specs.Seen.{Seen}
+use Rattle.avs_world.specs.declared.group.Part.{Part}
+use Rattle.avs_world.specs.declared.group.Part.TheVariants.{Master, Shadow, Bitmap, Plain}
 use Rattle.avs_model.specs.declared.answer.Role.{Role}
-use Rattle.avs_model.specs.declared.answer.Role.TheVariants.{Master, Shadow, Bitmap, Plain}
+use Rattle.avs_model.specs.declared.answer.Role.TheVariants as told
 use Rattle.avs_ii.specs.Held.{IiDisks, set_at}
 use Rattle.avs_world.specs.declared.place.Place.{Place}
 use Rattle.avs_world.specs.declared.place.Place.TheVariants.{Here, Spent, Lent}
@@ -11,11 +13,18 @@ use Rattle.avs_world.specs.declared.group.ShadowSet.{ShadowSet}
 use Rattle.avs_world.specs.declared.ranges.Target.{Target}
 use Rattle.avs_world.specs.Views.{GroupView, NoGroup, FreeDisk, InMemory, OnDisks, StoreView}
 
+-- how it is told
+abbrev pub told_as : Part → Role
+told_as Master = told.Master
+told_as Shadow = told.Shadow
+told_as Bitmap = told.Bitmap
+told_as Plain = told.Plain
+
 -- what the volume at a place serves as in a set
-abbrev pub role_in : ShadowSet → ℕ → Role
+abbrev pub role_in : ShadowSet → ℕ → Part
 role_in set place = if place == set.master then Master else if place == set.shadow then Shadow else if place == set.bitmap then Bitmap else Plain
 
-abbrev pub role_by : GroupView → ℕ → Role
+abbrev pub role_by : GroupView → ℕ → Part
 role_by NoGroup place = Plain
 role_by (FreeDisk disk) place = Plain
 role_by (InMemory set held) place = role_in set place
@@ -38,20 +47,20 @@ abbrev pub size_here : List (Place Seen) → ℕ → ℕ
 size_here places place = option_map_or (λ d. d.size) (disk_here (slice_get places place)) 0
 
 -- how many blocks a group's master has, and its shadow
-abbrev pub group_size_of : ShadowSet → IiDisks → Role → ℕ
+abbrev pub group_size_of : ShadowSet → IiDisks → Part → ℕ
 group_size_of set held Master = option_map_or (λ v. v.size) (slice_get held.volumes 0) 0
 group_size_of set held Shadow = option_map_or (λ s. s.chunks.blocks) (set_at held set.slot) 0
 group_size_of set held Bitmap = 0
 group_size_of set held Plain = 0
 
-abbrev pub group_size : GroupView → Role → ℕ
+abbrev pub group_size : GroupView → Part → ℕ
 group_size NoGroup role = 0
 group_size (FreeDisk disk) role = 0
 group_size (InMemory set held) role = group_size_of set held role
 group_size (OnDisks set parts) role = 0
 
 -- how many blocks of a target can be read and written
-abbrev pub reach_by : StoreView → ℕ → Role → ℕ
+abbrev pub reach_by : StoreView → ℕ → Part → ℕ
 reach_by store place Plain = size_here store.places place
 reach_by store place Master = group_size store.group Master
 reach_by store place Shadow = group_size store.group Shadow

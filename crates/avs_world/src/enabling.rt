@@ -1,5 +1,5 @@
 // Enabling a shadow set.
-ghost use Rattle.std.specs.Prelude.{◌≡◌, ◌<◌, ◌≤◌, ◌∷◌, [], Bool, Err, IfErr, IfOk, IsTrue, None, OnErr, Some, length, position, true};
+ghost use Rattle.std.specs.Prelude.{◌≡◌, ◌≢◌, ◌<◌, ◌≤◌, ◌∷◌, [], Bool, Err, IfErr, IfOk, IsTrue, None, OnErr, Some, length, position, true};
 ghost use Rattle.std.specs.Str.{bytes_eq};
 ghost use Rattle.avs_seg.specs.Causes.{Rose};
 ghost use Rattle.avs_dev.specs.Seen.{Seen};
@@ -8,13 +8,13 @@ ghost use Rattle.avs_model.specs.declared.answer.Refusal.TheVariants.{NoVolume, 
 ghost use Rattle.avs_model.specs.declared.event.IiCommand.TheVariants.{Enable};
 ghost use Rattle.avs_world.specs.Enabling.{target_causes};
 
-use crate::group::{Group, MASTER, ShadowSet};
+use crate::group::{Group, MASTER, Part, ShadowSet};
 use crate::ranges::Target;
 use crate::stopped::Stopped;
 use crate::world::{World, WorldFault};
 use avs_dev::{Arm, Back, Disk, Rack, RackFault, Why};
 use avs_ii::{IiGroup, IiParts};
-use avs_model::{Answer, Event, Host, Kind, Name, Refusal, Role};
+use avs_model::{Answer, Event, Host, Kind, Name, Refusal};
 use avs_seg::seg_count;
 use std::alloc::Global;
 use std::mem;
@@ -124,6 +124,7 @@ impl<D: Arm> World<D> {
         ensures steady { (R.seen rack.new).steady ≡ (R.seen rack.old).steady }
         ensures later { (R.seen rack.old).faults ≤ (R.seen rack.new).faults }
         ensures refused { result ≡ Err WorldFault.Rack → Rose (R.seen rack.old).faults (R.seen rack.new).faults }
+        ensures quiet { result ≢ Err WorldFault.Rack → (R.seen rack.new).faults ≡ (R.seen rack.old).faults }
         ensures needed { result ≡ Err WorldFault.Rack → HasNoFree (group_view D.seen self.old.group) }
     {
         match mem::replace(&mut self.group, Group::None) {
@@ -291,6 +292,7 @@ impl<D: Arm> World<D> {
         ensures steady { (R.seen rack.new).steady ≡ (R.seen rack.old).steady }
         ensures later { (R.seen rack.old).faults ≤ (R.seen rack.new).faults }
         ensures refused { result ≡ Err WorldFault.Rack → Rose (R.seen rack.old).faults (R.seen rack.new).faults }
+        ensures quiet { result ≢ Err WorldFault.Rack → (R.seen rack.new).faults ≡ (R.seen rack.old).faults }
         ensures asked { result ≡ Err WorldFault.Rack → (steady : Bool) (state : State) → Stands D.seen steady self.old state → AsksForDisk state (Event.Ii Host.P (Enable true master.now shadow.now bitmap.now)) }
     {
         if !self.up {
@@ -329,14 +331,14 @@ fn check_roles(master: Target, shadow: Target, bitmap: Target) -> Result<(), Ref
     ensures refused { IfErr result (λ why. first_cause (target_causes master shadow bitmap) ≡ Some why) }
     ensures passes { IfOk result (λ _. first_cause (target_causes master shadow bitmap) ≡ None) }
 {
-    if master.role == Role::Shadow || master.role == Role::Bitmap {
-        return Err(Refusal::BusyVolume(master.role));
+    if master.role == Part::Shadow || master.role == Part::Bitmap {
+        return Err(Refusal::BusyVolume(master.role.told()));
     }
-    if shadow.role != Role::Plain || shadow.place == master.place {
-        return Err(Refusal::BusyVolume(shadow.role));
+    if shadow.role != Part::Plain || shadow.place == master.place {
+        return Err(Refusal::BusyVolume(shadow.role.told()));
     }
-    if bitmap.role != Role::Plain || bitmap.place == master.place || bitmap.place == shadow.place {
-        return Err(Refusal::BusyVolume(bitmap.role));
+    if bitmap.role != Part::Plain || bitmap.place == master.place || bitmap.place == shadow.place {
+        return Err(Refusal::BusyVolume(bitmap.role.told()));
     }
     Ok(())
 }

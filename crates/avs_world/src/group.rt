@@ -18,6 +18,31 @@ const SHADOW_DISK: u32 = 2;
 
 const BITMAP_DISK: u32 = 3;
 
+// What a volume serves as, in a world of one set.
+#[derive(Clone, Copy, Debug, PartialEq, Eq)]
+pub(crate) enum Part {
+    Master,
+    Shadow,
+    Bitmap,
+    Plain,
+}
+
+impl Part {
+    ghost use Rattle.avs_world.specs.Ranges.{told_as};
+
+    // How it is told.
+    pub(crate) fn told(self) -> Role
+        ensures { result ≡ told_as self }
+    {
+        match self {
+            Part::Master => Role::Master,
+            Part::Shadow => Role::Shadow,
+            Part::Bitmap => Role::Bitmap,
+            Part::Plain => Role::Plain,
+        }
+    }
+}
+
 // A shadow set: its name, its slot in the group, and the places of its volumes.
 #[derive(Debug, Drop)]
 pub(crate) struct ShadowSet {
@@ -35,29 +60,29 @@ impl ShadowSet {
     ghost use Rattle.avs_world.specs.Causes.{number_of};
 
     // What the volume at a place serves as.
-    pub(crate) fn role(&self, place: usize) -> Role
+    pub(crate) fn role(&self, place: usize) -> Part
         ensures { result ≡ role_in self.now place }
     {
         if place == self.master {
-            Role::Master
+            Part::Master
         } else if place == self.shadow {
-            Role::Shadow
+            Part::Shadow
         } else if place == self.bitmap {
-            Role::Bitmap
+            Part::Bitmap
         } else {
-            Role::Plain
+            Part::Plain
         }
     }
 
     // The number of the disk in the group that serves as that.
-    pub(crate) fn disk_number(role: Role) -> u32
+    pub(crate) fn disk_number(role: Part) -> u32
         ensures { result ≡ number_of role }
     {
         match role {
-            Role::Master => MASTER_DISK,
-            Role::Shadow => SHADOW_DISK,
-            Role::Bitmap => BITMAP_DISK,
-            Role::Plain => STATE_DISK,
+            Part::Master => MASTER_DISK,
+            Part::Shadow => SHADOW_DISK,
+            Part::Bitmap => BITMAP_DISK,
+            Part::Plain => STATE_DISK,
         }
     }
 }
@@ -80,26 +105,26 @@ impl<D: Disk> Group<D> {
     ghost use Rattle.avs_world.specs.Ranges.{role_by, group_size};
 
     // What the volume at a place serves as.
-    pub(crate) fn role(&self, place: usize) -> Role
+    pub(crate) fn role(&self, place: usize) -> Part
         ensures { result ≡ role_by (group_view D.seen self.now) place }
     {
         match self {
             Group::Open(set, _) => set.role(place),
             Group::Closed(set, _) => set.role(place),
-            Group::None | Group::Free(_) => Role::Plain,
+            Group::None | Group::Free(_) => Part::Plain,
         }
     }
 
     // How many blocks the master has, and how many the shadow.
-    pub(crate) fn size(&self, role: Role) -> u32
+    pub(crate) fn size(&self, role: Part) -> u32
         ensures { result ≡ group_size (group_view D.seen self.now) role }
     {
         match self {
             Group::Open(set, group) => {
                 let size = match role {
-                    Role::Master => group.volume_size(MASTER),
-                    Role::Shadow => group.shadow_size(set.slot),
-                    Role::Bitmap | Role::Plain => None,
+                    Part::Master => group.volume_size(MASTER),
+                    Part::Shadow => group.shadow_size(set.slot),
+                    Part::Bitmap | Part::Plain => None,
                 };
                 size.unwrap_or(0)
             }

@@ -132,7 +132,7 @@ impl<D: Arm> Shelf<D> {
     // Arms a tear on its disk, where it is here, and tells whether it lets one be armed.
     pub(crate) fn arm(&mut self, place: usize, tear: Tear) -> bool
         requires { place < length (places_of D.seen self.old) }
-        ensures arms { ArmsPlace (disk_here (slice_get (places_of D.seen self.old) place)) (places_of D.seen self.old) place result (places_of D.seen self.new) }
+        ensures arms { ArmsPlace (disk_here (slice_get (places_of D.seen self.old) place)) (places_of D.seen self.old) place tear result (places_of D.seen self.new) }
         ensures names { names_of self.new ≡ names_of self.old }
         ensures blocks { self.new.blocks ≡ self.old.blocks }
     {

@@ -6,7 +6,7 @@ ghost use Rattle.avs_world.specs.Views.{group_view};
 ghost use Rattle.avs_world.specs.Calls.{IsMasterRange, IsShadowRangeOf, ReadsMaster, WritesMaster, ReadsShadow, WritesShadow};
 ghost use Rattle.avs_world.specs.declared.world.WorldFault.TheVariants.{NoMemory};
 
-use crate::group::{Group, MASTER};
+use crate::group::{Group, MASTER, Part};
 use crate::stopped::{Stopped, StoppedWrite};
 use crate::world::{World, WorldFault};
 use avs_dev::{Arm, Disk};
@@ -24,7 +24,7 @@ const LONGEST_READ: u32 = 4096;
 #[derive(Clone, Copy, Debug)]
 pub(crate) struct Target {
     pub(crate) place: usize,
-    pub(crate) role: Role,
+    pub(crate) role: Part,
 }
 
 impl<D: Arm> World<D> {
@@ -43,7 +43,7 @@ impl<D: Arm> World<D> {
         ensures { result ≡ reach (view_of D.seen self.now) target }
     {
         match target.role {
-            Role::Plain => self.shelf.size(target.place),
+            Part::Plain => self.shelf.size(target.place),
             role => self.group.size(role),
         }
     }
@@ -72,7 +72,7 @@ impl<D: Arm> World<D> {
             place,
             role: self.group.role(place),
         };
-        if target.role == Role::Bitmap {
+        if target.role == Part::Bitmap {
             return Err(Refusal::BusyVolume(Role::Bitmap));
         }
         if len < 1 || longest < len {
@@ -82,7 +82,7 @@ impl<D: Arm> World<D> {
         if u64::from(at) + u64::from(len) > u64::from(blocks) {
             return Err(Refusal::Range(blocks));
         }
-        if target.role == Role::Plain && self.shelf.is_spent(place) {
+        if target.role == Part::Plain && self.shelf.is_spent(place) {
             return Err(Refusal::NoContents);
         }
         Ok(target)
@@ -113,13 +113,13 @@ impl<D: Arm> World<D> {
         ensures stopped { self.new.stopped ≡ self.old.stopped }
     {
         match target.role {
-            Role::Plain => self.shelf.read(target.place, at, out),
-            Role::Shadow => match read_shadow(&mut self.group, at, out) {
+            Part::Plain => self.shelf.read(target.place, at, out),
+            Part::Shadow => match read_shadow(&mut self.group, at, out) {
                 Ok(()) => Ok(()),
                 Err(_) => Err(Failed),
             },
-            Role::Master => read_master(&mut self.group, at, out),
-            Role::Bitmap => unreachable!(),
+            Part::Master => read_master(&mut self.group, at, out),
+            Part::Bitmap => unreachable!(),
         }
     }
 
@@ -131,13 +131,13 @@ impl<D: Arm> World<D> {
         ensures stopped { self.new.stopped ≡ self.old.stopped }
     {
         match target.role {
-            Role::Plain => self.shelf.write(target.place, at, bytes),
-            Role::Shadow => match write_shadow(&mut self.group, at, bytes) {
+            Part::Plain => self.shelf.write(target.place, at, bytes),
+            Part::Shadow => match write_shadow(&mut self.group, at, bytes) {
                 Ok(()) => Ok(()),
                 Err(_) => Err(Failed),
             },
-            Role::Master => write_master(&mut self.group, at, bytes),
-            Role::Bitmap => unreachable!(),
+            Part::Master => write_master(&mut self.group, at, bytes),
+            Part::Bitmap => unreachable!(),
         }
     }
 

@@ -1,16 +1,16 @@
 // What each event does to the volumes of host p.
-ghost use Rattle.std.specs.Prelude.{◌≡◌, ◌+◌, ◌^◌, ◌<◌, ◌≤◌, Bool, true, false, Err, IfErr, IfOk, IsErrOf, IsTrue, None, OnErr, OnOk, Some, length, position};
+ghost use Rattle.std.specs.Prelude.{◌≡◌, ◌≢◌, ◌+◌, ◌^◌, ◌<◌, ◌≤◌, Bool, true, false, Err, IfErr, IfOk, IsErrOf, IsTrue, None, OnErr, OnOk, Some, length, position};
 ghost use Rattle.std.specs.Str.{bytes_eq};
 ghost use Rattle.avs_seg.specs.Causes.{Rose};
 ghost use Rattle.avs_model.specs.Script.{built_command};
 ghost use Rattle.avs_model.specs.declared.event.IiCommand.TheVariants.{Enable};
 ghost use Rattle.avs_world.specs.declared.world.WorldFault.TheVariants.{NoMemory};
 
-use crate::group::{Group, ShadowSet};
+use crate::group::{Group, Part, ShadowSet};
 use crate::place::Shelf;
 use crate::stopped::Stopped;
 use avs_dev::{Arm, Disk, Rack, RackFault, Tear};
-use avs_model::{Answer, ArmTarget, Event, Host, IiCommand, Name, Refusal, Role, Word};
+use avs_model::{Answer, ArmTarget, Event, Host, IiCommand, Name, Refusal, Word};
 use std::alloc::{AllocError, AllocFailed, Global};
 
 const LEAST_VOLUME: u32 = 64;
@@ -129,6 +129,7 @@ impl<D: Arm> World<D> {
         ensures steady { (R.seen rack.new).steady ≡ (R.seen rack.old).steady }
         ensures later { (R.seen rack.old).faults ≤ (R.seen rack.new).faults }
         ensures refused { result ≡ Err WorldFault.Rack → Rose (R.seen rack.old).faults (R.seen rack.new).faults }
+        ensures quiet { result ≢ Err WorldFault.Rack → (R.seen rack.new).faults ≡ (R.seen rack.old).faults }
         ensures asked { result ≡ Err WorldFault.Rack → (steady : Bool) (state : State) → Stands D.seen steady self.old state → AsksForDisk state (Event.Volume Host.P name.now blocks) }
     {
         if let Err(why) = self.check_volume(name, blocks) {
@@ -145,7 +146,7 @@ impl<D: Arm> World<D> {
 
     // Arms a tear on a disk of the group, where there is one.
     fn arm_group(&mut self, number: u32, tear: Tear) -> bool
-        ensures arms { ArmsView (group_view D.seen self.old.group) number result (group_view D.seen self.new.group) }
+        ensures arms { ArmsView (group_view D.seen self.old.group) number tear result (group_view D.seen self.new.group) }
         ensures shelf { self.new.shelf ≡ self.old.shelf }
         ensures up { self.new.up ≡ self.old.up }
         ensures stopped { self.new.stopped ≡ self.old.stopped }
@@ -159,12 +160,12 @@ impl<D: Arm> World<D> {
     // Arms a tear on the disk of a volume, and tells whether the disk lets one be armed.
     fn arm_volume(&mut self, place: usize, tear: Tear) -> bool
         requires { place < length (view_of D.seen self.old).places }
-        ensures arms { ArmsVolume (view_of D.seen self.old) place result (view_of D.seen self.new) }
+        ensures arms { ArmsVolume (view_of D.seen self.old) place tear result (view_of D.seen self.new) }
         ensures up { self.new.up ≡ self.old.up }
         ensures stopped { self.new.stopped ≡ self.old.stopped }
     {
         match self.group.role(place) {
-            Role::Plain => self.shelf.arm(place, tear),
+            Part::Plain => self.shelf.arm(place, tear),
             role => self.arm_group(ShadowSet::disk_number(role), tear),
         }
     }
@@ -184,7 +185,7 @@ impl<D: Arm> World<D> {
         ensures refused { IfErr result (λ why. (steady : Bool) (state : State) → Stands D.seen steady self.old state → refusal state (Event.Arm Host.P target.now tear.skip tear.from tear.count) ≡ Some why) }
         ensures other { IfErr result (λ why. ArmsAsDisk (target_disk (view_of D.seen self.old) target.now) (Answer.Refused why)) }
         ensures same { OnErr result (self.new ≡ self.old) }
-        ensures arms { IfOk result (λ armed. ArmsTarget (view_of D.seen self.old) target.now armed (view_of D.seen self.new)) }
+        ensures arms { IfOk result (λ armed. ArmsTarget (view_of D.seen self.old) target.now tear armed (view_of D.seen self.new)) }
         ensures was_up { IfOk result (λ _. self.old.up ≡ true) }
         ensures up { self.new.up ≡ self.old.up }
         ensures stopped { self.new.stopped ≡ self.old.stopped }
@@ -201,7 +202,7 @@ impl<D: Arm> World<D> {
                 if !self.has_group(name.as_slice()) {
                     return Err(Refusal::NoGroup);
                 }
-                Ok(self.arm_group(ShadowSet::disk_number(Role::Plain), tear))
+                Ok(self.arm_group(ShadowSet::disk_number(Part::Plain), tear))
             }
         }
     }
@@ -209,7 +210,7 @@ impl<D: Arm> World<D> {
     fn arm(&mut self, target: &ArmTarget, tear: Tear) -> Answer
         ensures steps { (steady : Bool) → Steps D.seen steady self.old (Event.Arm Host.P target.now tear.skip tear.from tear.count) result self.new }
         ensures cause { FaultHasCause (view_of D.seen self.old) (view_of D.seen self.new) result }
-        ensures arms { AnswersArm (view_of D.seen self.old) target.now (view_of D.seen self.new) result }
+        ensures arms { AnswersArm (view_of D.seen self.old) target.now tear (view_of D.seen self.new) result }
     {
         match self.arm_target(target, tear) {
             Ok(true) => Answer::Done,
@@ -259,6 +260,7 @@ impl<D: Arm> World<D> {
         ensures steady { (R.seen rack.new).steady ≡ (R.seen rack.old).steady }
         ensures later { (R.seen rack.old).faults ≤ (R.seen rack.new).faults }
         ensures refused { result ≡ Err WorldFault.Rack → Rose (R.seen rack.old).faults (R.seen rack.new).faults }
+        ensures quiet { result ≢ Err WorldFault.Rack → (R.seen rack.new).faults ≡ (R.seen rack.old).faults }
         ensures asked { result ≡ Err WorldFault.Rack → (steady : Bool) (state : State) → Stands D.seen steady self.old state → AsksForDisk state event.now }
     {
         match event {

@@ -21,12 +21,12 @@ returns-in-Ok-true-clause-steps g c steady s stands =
     let s_up : s.p.up ≡ true = sym stands.up ∙ up in
     let holds = up_holds seen steady old s stands up in
     let phase = up_phase seen steady old s stands up in
-    let arms = subst (λ (b : Bool). ArmsTarget (view_of seen old) target b (view_of seen new)) c.in-Ok-true.field-0-test c.in-Ok-true.ensures.arms in
+    let arms = subst (λ (b : Bool). ArmsTarget (view_of seen old) target c.args.tear b (view_of seen new)) c.in-Ok-true.field-0-test c.in-Ok-true.ensures.arms in
     let next = with_armed s P (disk_place s.p target) true in
-    let made = target_armed steady (view_of seen old) (view_of seen new) s holds phase target arms in (
+    let made = target_armed c.args.tear steady (view_of seen old) (view_of seen new) s holds phase target arms in (
       next,
-      record { right = (target_passes steady (view_of seen old) (view_of seen new) s holds phase true target arms c.args.tear.skip c.args.tear.from c.args.tear.count s_up, refl); next = refl },
-      stands_up seen steady new next (c.arm_target.ensures.up ∙ up) (next_up s target s_up) (next_none s target (up_none seen steady old s stands up))
+      record { right = (target_passes c.args.tear steady (view_of seen old) (view_of seen new) s holds phase true target arms c.args.tear.skip c.args.tear.from c.args.tear.count s_up, refl); next = refl },
+      stands_up seen steady new next (c.arm_target.ensures.up ∙ up) (next_up c.args.tear s target s_up) (next_none c.args.tear s target (up_none seen steady old s stands up))
           (c.arm_target.ensures.stopped ∙ up_kept seen steady old s stands up) made.0 made.1,
     )
 
@@ -40,11 +40,11 @@ returns-in-Ok-false-clause-steps g c steady s stands =
     let s_up : s.p.up ≡ true = sym stands.up ∙ up in
     let holds = up_holds seen steady old s stands up in
     let phase = up_phase seen steady old s stands up in
-    let arms = subst (λ (b : Bool). ArmsTarget (view_of seen old) target b (view_of seen new)) c.in-Ok-false.field-0-test c.in-Ok-false.ensures.arms in
-    let same = target_same (view_of seen old) (view_of seen new) target arms in
-    let other = target_unarmed steady (view_of seen old) (view_of seen new) s holds phase (are_sure seen g.met.D.Arm.steady_arms old.shelf.places.items) target arms in (
+    let arms = subst (λ (b : Bool). ArmsTarget (view_of seen old) target c.args.tear b (view_of seen new)) c.in-Ok-false.field-0-test c.in-Ok-false.ensures.arms in
+    let same = target_same c.args.tear (view_of seen old) (view_of seen new) target arms in
+    let other = target_unarmed c.args.tear steady (view_of seen old) (view_of seen new) s holds phase (are_sure seen g.met.D.Arm.steady_arms old.shelf.places.items) target arms in (
       s,
-      record { right = inr (other, target_passes steady (view_of seen old) (view_of seen new) s holds phase false target arms c.args.tear.skip c.args.tear.from c.args.tear.count s_up, refl); next = refl },
+      record { right = inr (other, target_passes c.args.tear steady (view_of seen old) (view_of seen new) s holds phase false target arms c.args.tear.skip c.args.tear.from c.args.tear.count s_up, refl); next = refl },
       stands_up seen steady new s (c.arm_target.ensures.up ∙ up) s_up (up_none seen steady old s stands up) (c.arm_target.ensures.stopped ∙ up_kept seen steady old s stands up)
           (subst (λ (store : StoreView). Holds steady store s) (sym same) holds) (subst (λ (store : StoreView). IsPhase true store.group) (sym same) phase),
     )
@@ -59,16 +59,16 @@ returns-in-Ok-true-clause-arms g c =
     let seen = g.D.Disk.seen in
     let old = view_of seen c.args.self.now in
     let new = view_of seen c.arm_target.new.self in
-    let arms = subst (λ (b : Bool). ArmsTarget old c.args.target.now b new) c.in-Ok-true.field-0-test c.in-Ok-true.ensures.arms in
-    record { as_disk = target_answer old new c.args.target.now true arms; as_told = arms }
+    let arms = subst (λ (b : Bool). ArmsTarget old c.args.target.now c.args.tear b new) c.in-Ok-true.field-0-test c.in-Ok-true.ensures.arms in
+    record { as_disk = target_answer c.args.tear old new c.args.target.now true arms; as_told = arms }
 
 pub returns-in-Ok-false-clause-arms : goal.returns-in-Ok-false-clause-arms
 returns-in-Ok-false-clause-arms g c =
     let seen = g.D.Disk.seen in
     let old = view_of seen c.args.self.now in
     let new = view_of seen c.arm_target.new.self in
-    let arms = subst (λ (b : Bool). ArmsTarget old c.args.target.now b new) c.in-Ok-false.field-0-test c.in-Ok-false.ensures.arms in
-    record { as_disk = target_answer old new c.args.target.now false arms; as_told = target_same old new c.args.target.now arms }
+    let arms = subst (λ (b : Bool). ArmsTarget old c.args.target.now c.args.tear b new) c.in-Ok-false.field-0-test c.in-Ok-false.ensures.arms in
+    record { as_disk = target_answer c.args.tear old new c.args.target.now false arms; as_told = target_same c.args.tear old new c.args.target.now arms }
 
 pub returns-in-Err-clause-arms : goal.returns-in-Err-clause-arms
 returns-in-Err-clause-arms g c = record { as_disk = c.in-Err.ensures.other; as_told = ap (view_of g.D.Disk.seen) c.in-Err.ensures.same }

@@ -1,5 +1,5 @@
 use Rattle.std.proofs.Common.{◌≡◌, ◌∙◌, Some, sym, ap, arith}
-use Rattle.avs_model.specs.declared.answer.Role.TheVariants.{Bitmap, Plain}
+use Rattle.avs_world.specs.declared.group.Part.TheVariants.{Bitmap, Plain}
 use Rattle.avs_model.specs.declared.answer.Refusal.TheVariants.{Range}
 use Rattle.std.specs.List.{slice_get}
 use Rattle.avs_world.specs.Views.{view_of}
