@@ -1,8 +1,8 @@
 -- How a run ends: the status, and what a line that ends it has written.
-use Rattle.std.specs.Prelude.{ℕ, ◌≡◌, Bool, List, Option}
+use Rattle.std.specs.Prelude.{ℕ, ◌≡◌, List, Option}
 use Rattle.std.specs.Io.KnownBytes.{append_known}
 use Rattle.avs_model.specs.Script.{Script}
-use Rattle.avs_model.specs.Promise.{IsAnsweredToBad, IsCutBySink, IsCutByRack, IsCutByMemory}
+use Rattle.avs_model.specs.Promise.{Claim, IsAnsweredToBad, IsCutBySink, IsCutByRack, IsCutByMemory}
 use Rattle.avs_run.specs.declared.end.End.{End}
 use Rattle.avs_run.specs.declared.end.End.TheVariants.{Whole, BadLine, SourceFault, SinkFault, RackFault, NoMemory, OverBudget}
 
@@ -26,14 +26,14 @@ IsLineEnd NoMemory = Unit {0}
 IsLineEnd OverBudget = ⊥
 
 -- what was written of the answers to a script, where a line ended it so
-abbrev pub EndsIn : Bool → End → Script → List ℕ → Type 0
-EndsIn steady Whole given bytes = ⊥
-EndsIn steady BadLine given bytes = IsAnsweredToBad steady given bytes
-EndsIn steady SourceFault given bytes = ⊥
-EndsIn steady SinkFault given bytes = IsCutBySink steady given bytes
-EndsIn steady RackFault given bytes = IsCutByRack steady given bytes
-EndsIn steady NoMemory given bytes = IsCutByMemory steady given bytes
-EndsIn steady OverBudget given bytes = ⊥
+abbrev pub EndsIn : Claim → End → Script → List ℕ → Type 0
+EndsIn claim Whole given bytes = ⊥
+EndsIn claim BadLine given bytes = IsAnsweredToBad claim given bytes
+EndsIn claim SourceFault given bytes = ⊥
+EndsIn claim SinkFault given bytes = IsCutBySink claim given bytes
+EndsIn claim RackFault given bytes = IsCutByRack claim given bytes
+EndsIn claim NoMemory given bytes = IsCutByMemory claim given bytes
+EndsIn claim OverBudget given bytes = ⊥
 
 -- more bytes were written, of which this holds
 abbrev pub Printed : Option (List ℕ) → Option (List ℕ) → (List ℕ → Type 0) → Type 0

@@ -1,5 +1,5 @@
 // Gives the text of answers to the sink.
-ghost use Rattle.std.specs.Prelude.{◌≡◌, ◌≤◌, Err, OnOk, IfErr};
+ghost use Rattle.std.specs.Prelude.{◌≡◌, ◌≢◌, Err, OnOk, IfErr};
 ghost use Rattle.std.specs.Io.KnownBytes.{append_known};
 ghost use Rattle.avs_seg.specs.Causes.{Rose};
 ghost use Rattle.avs_model.specs.Printed.{answer_line, bad_line};
@@ -41,8 +41,8 @@ impl From<avs_seg::NoMemory> for PrintFault {
 pub fn print_answer<K: Sink>(alloc: Global, sink: &mut K, answer: &Answer) -> Result<(), PrintFault>
     ensures printed { OnOk result (K.written sink.new ≡ append_known (K.written sink.old) (answer_line answer.now)) }
     ensures cut { IfErr result (Cuts (K.written sink.old) (K.written sink.new) (answer_line answer.now)) }
-    ensures later { K.faults sink.old ≤ K.faults sink.new }
     ensures cause { result ≡ Err PrintFault.Sink → Rose (K.faults sink.old) (K.faults sink.new) }
+    ensures quiet { result ≢ Err PrintFault.Sink → K.faults sink.new ≡ K.faults sink.old }
 {
     let line = answer_line(alloc, answer)?;
     put_all(sink, line.as_bytes())?;
@@ -53,8 +53,8 @@ pub fn print_answer<K: Sink>(alloc: Global, sink: &mut K, answer: &Answer) -> Re
 pub fn print_bad_line<K: Sink>(alloc: Global, sink: &mut K, number: u32) -> Result<(), PrintFault>
     ensures printed { OnOk result (K.written sink.new ≡ append_known (K.written sink.old) (bad_line number)) }
     ensures cut { IfErr result (Cuts (K.written sink.old) (K.written sink.new) (bad_line number)) }
-    ensures later { K.faults sink.old ≤ K.faults sink.new }
     ensures cause { result ≡ Err PrintFault.Sink → Rose (K.faults sink.old) (K.faults sink.new) }
+    ensures quiet { result ≢ Err PrintFault.Sink → K.faults sink.new ≡ K.faults sink.old }
 {
     let line = bad_line(alloc, number)?;
     put_all(sink, line.as_bytes())?;

@@ -1,12 +1,12 @@
 // Runs the lines of a source, one after another.
-ghost use Rattle.std.specs.Prelude.{◌≡◌, ◌≤◌, ◌<◌, ◌+◌, ℕ, List, [], IsTrue, Some, Err, OnOk};
+ghost use Rattle.std.specs.Prelude.{◌≡◌, ◌≢◌, ◌<◌, ◌+◌, ℕ, List, [], Some, Err, OnOk};
 ghost use Rattle.avs_seg.specs.Causes.{Rose};
 ghost use Rattle.avs_seg.specs.Lines.{lines_limit};
 ghost use Rattle.avs_io.specs.Given.{HasGiven};
 ghost use Rattle.avs_io.specs.Reader.{reader_of, faults_of, KeepsSource};
-ghost use Rattle.avs_model.specs.Promise.{Wrote};
+ghost use Rattle.avs_model.specs.Promise.{Claim, Wrote};
 ghost use Rattle.avs_run.specs.Ends.{status_of, Printed};
-ghost use Rattle.avs_run.specs.Run.{Turns};
+ghost use Rattle.avs_run.specs.Run.{Supports, Turns};
 
 use crate::end::End;
 use crate::line::{run_line, tell_bad_line};
@@ -23,19 +23,19 @@ fn turn<S: Source, K: Sink, R: Rack>(
     sink: &mut K,
     rack: &mut R,
 ) -> Result<(), End>
-    ensures turns { IsTrue (R.seen rack.old).tells → (input : List ℕ)
-        → Turns R.D.seen (R.seen rack.old).steady input (reader_of lines.old) (reader_of lines.new) world.old world.new (K.written sink.old) (K.written sink.new) result }
+    ensures turns { (claim : Claim) → Supports (R.seen rack.old) claim → (input : List ℕ)
+        → Turns R.D.seen claim input (reader_of lines.old) (reader_of lines.new) world.old world.new (K.written sink.old) (K.written sink.new) result }
     ensures reference { KeepsSource lines.old lines.new }
     ensures given { OnOk result ((reader_of lines.new).given ≡ (reader_of lines.old).given + 1) }
     ensures below { OnOk result ((reader_of lines.old).given < lines_limit) }
     ensures tells { (R.seen rack.new).tells ≡ (R.seen rack.old).tells }
     ensures steady { (R.seen rack.new).steady ≡ (R.seen rack.old).steady }
-    ensures source_later { faults_of lines.old ≤ faults_of lines.new }
-    ensures sink_later { K.faults sink.old ≤ K.faults sink.new }
-    ensures rack_later { (R.seen rack.old).faults ≤ (R.seen rack.new).faults }
     ensures read { result ≡ Err End.SourceFault → Rose (faults_of lines.old) (faults_of lines.new) }
+    ensures read_quiet { result ≢ Err End.SourceFault → faults_of lines.new ≡ faults_of lines.old }
     ensures write { result ≡ Err End.SinkFault → Rose (K.faults sink.old) (K.faults sink.new) }
+    ensures write_quiet { result ≢ Err End.SinkFault → K.faults sink.new ≡ K.faults sink.old }
     ensures rack { result ≡ Err End.RackFault → Rose (R.seen rack.old).faults (R.seen rack.new).faults }
+    ensures rack_quiet { result ≢ Err End.RackFault → (R.seen rack.new).faults ≡ (R.seen rack.old).faults }
 {
     let number = lines.given() + 1;
     match lines.next(alloc) {
@@ -55,12 +55,15 @@ fn run_lines<S: Source, K: Sink, R: Rack>(
     sink: &mut K,
     rack: &mut R,
 ) -> End
-    ensures ran { IsTrue (R.seen rack.old).tells → (input : List ℕ) → HasGiven (Some input) [] (reader_of lines.old)
-        → Printed (K.written sink.old) (K.written sink.new) (Wrote (R.seen rack.old).steady (status_of result) input (reader_of lines.new).left) }
+    ensures ran { (claim : Claim) → Supports (R.seen rack.old) claim → (input : List ℕ) → HasGiven (Some input) [] (reader_of lines.old)
+        → Printed (K.written sink.old) (K.written sink.new) (Wrote claim (status_of result) input (reader_of lines.new).left) }
     ensures reference { KeepsSource lines.old lines.new }
     ensures read { result ≡ End.SourceFault → Rose (faults_of lines.old) (faults_of lines.new) }
+    ensures read_quiet { result ≢ End.SourceFault → faults_of lines.new ≡ faults_of lines.old }
     ensures write { result ≡ End.SinkFault → Rose (K.faults sink.old) (K.faults sink.new) }
+    ensures write_quiet { result ≢ End.SinkFault → K.faults sink.new ≡ K.faults sink.old }
     ensures rack { result ≡ End.RackFault → Rose (R.seen rack.old).faults (R.seen rack.new).faults }
+    ensures rack_quiet { result ≢ End.RackFault → (R.seen rack.new).faults ≡ (R.seen rack.old).faults }
 {
     let mut world = World::new(alloc);
     loop {
@@ -77,11 +80,14 @@ pub fn run_source<S: Source, K: Sink, R: Rack>(
     sink: &mut K,
     rack: &mut R,
 ) -> End
-    ensures ran { IsTrue (R.seen rack.old).tells → (input : List ℕ) → S.left source.old ≡ Some input
-        → Printed (K.written sink.old) (K.written sink.new) (Wrote (R.seen rack.old).steady (status_of result) input (S.left source.new)) }
+    ensures ran { (claim : Claim) → Supports (R.seen rack.old) claim → (input : List ℕ) → S.left source.old ≡ Some input
+        → Printed (K.written sink.old) (K.written sink.new) (Wrote claim (status_of result) input (S.left source.new)) }
     ensures read { result ≡ End.SourceFault → Rose (S.faults source.old) (S.faults source.new) }
+    ensures read_quiet { result ≢ End.SourceFault → S.faults source.new ≡ S.faults source.old }
     ensures write { result ≡ End.SinkFault → Rose (K.faults sink.old) (K.faults sink.new) }
+    ensures write_quiet { result ≢ End.SinkFault → K.faults sink.new ≡ K.faults sink.old }
     ensures rack { result ≡ End.RackFault → Rose (R.seen rack.old).faults (R.seen rack.new).faults }
+    ensures rack_quiet { result ≢ End.RackFault → (R.seen rack.new).faults ≡ (R.seen rack.old).faults }
 {
     let mut lines = Lines::new(source);
     run_lines(alloc, &mut lines, sink, rack)

@@ -1,5 +1,5 @@
-use Rattle.std.proofs.Common.{◌∙◌, [], ◌∷◌, ◌++◌, sym, refl, arith}
-use Rattle.avs_run.proofs.LineLemmas.{append_known-nil, append_known-append, so_far_none}
+use Rattle.std.proofs.Common.{◌∙◌, [], ◌∷◌, ◌++◌, sym, refl}
+use Rattle.avs_run.proofs.LineLemmas.{ok_is_no_err, append_known-nil, append_known-append, supports_same, so_far_none}
 use Rattle.avs_run.proofs.run.run_lines.Goals as goal
 
 pub loop-end-init : goal.loop-end-init
@@ -7,25 +7,25 @@ loop-end-init g c = record {
   reference = refl;
   tells = refl;
   steady = refl;
-  source_later = omega arith;
-  sink_later = omega arith;
-  rack_later = omega arith;
-  so_far = λ tells input given. (
+  source = refl;
+  sink = refl;
+  rack = refl;
+  so_far = λ claim can input given. (
     [],
     given,
     (
       [],
       sym (append_known-nil (g.K.Sink.written c.args.sink.now)),
-      so_far_none g.R.D.Disk.seen (g.R.Rack.seen c.args.rack.now).steady c.new-world.result (c.new-world.ensures (g.R.Rack.seen c.args.rack.now).steady),
+      so_far_none g.R.D.Disk.seen claim c.new-world.result c.new-world.ensures,
     ),
   );
 }
 
 pub returns-in-Err-clause-ran : goal.returns-in-Err-clause-ran
-returns-in-Err-clause-ran g c tells input given =
+returns-in-Err-clause-ran g c claim can input given =
     let i = c.loop-end.invariant in
-    let so = i.so_far tells input given in
-    let turns = rw i.steady at (c.in-Err.ensures.turns (i.tells ∙ tells) input) in
+    let so = i.so_far claim can input given in
+    let turns = c.in-Err.ensures.turns claim (supports_same (g.R.Rack.seen c.args.rack.now) (g.R.Rack.seen c.loop-end.rack) i.tells i.steady claim can) input in
     let end = turns.ends so.0 so.2.0 so.1 so.2.2 in
     (so.2.0 ++ end.0, append_known-append (g.K.Sink.written c.args.sink.now) (g.K.Sink.written c.loop-end.sink) (g.K.Sink.written c.turn.new.sink) so.2.0 end.0 so.2.1 end.1, end.2)
 
@@ -36,12 +36,12 @@ loop-end-preserved g c =
       reference = c.turn.ensures.reference ∙ i.reference;
       tells = c.turn.ensures.tells ∙ i.tells;
       steady = c.turn.ensures.steady ∙ i.steady;
-      source_later = omega (arith, c.turn.ensures.source_later, i.source_later);
-      sink_later = omega (arith, c.turn.ensures.sink_later, i.sink_later);
-      rack_later = omega (arith, c.turn.ensures.rack_later, i.rack_later);
-      so_far = λ tells input given.
-          let so = i.so_far tells input given in
-          let turns = rw i.steady at (c.in_default.ensures.turns (i.tells ∙ tells) input) in
+      source = c.turn.ensures.read_quiet (ok_is_no_err _ _ _ c.in_default.is) ∙ i.source;
+      sink = c.turn.ensures.write_quiet (ok_is_no_err _ _ _ c.in_default.is) ∙ i.sink;
+      rack = c.turn.ensures.rack_quiet (ok_is_no_err _ _ _ c.in_default.is) ∙ i.rack;
+      so_far = λ claim can input given.
+          let so = i.so_far claim can input given in
+          let turns = c.in_default.ensures.turns claim (supports_same (g.R.Rack.seen c.args.rack.now) (g.R.Rack.seen c.loop-end.rack) i.tells i.steady claim can) input in
           let on = turns.goes_on so.0 so.2.0 so.1 so.2.2 in (
             so.0 ++ on.0 ∷ [],
             on.1,
