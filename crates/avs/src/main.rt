@@ -1,12 +1,16 @@
-// Runs a script from standard input, and writes its answers to standard output.
+// Runs a script from standard input, and writes its answers to standard output. On standard error it says in one line why the
+// exit status is not 0.
 #![tactic(auto)]
 
+mod messages;
 #[cfg(test)]
 mod tests;
 
+use crate::messages::{line_message, message};
 use avs_dev::MemRack;
 use avs_io::{Reading, Writing};
 use avs_run::run_script;
+use avs_told::{KeptLine, Told};
 use std::io;
 use std::process::ExitCode;
 use std::rt::Env;
@@ -24,18 +28,45 @@ fn words_of<R: Env + AllocGlobal>(rt: &R) -> io::Result<Vec<String>> {
     Ok(words)
 }
 
-fn main(rt: HostRuntime) -> ExitCode {
-    let alloc = rt.alloc();
-    let words = match words_of(&rt) {
-        Ok(words) => words,
-        // A word that is no text is a word too.
-        Err(why) if why.kind() != io::ErrorKind::OutOfMemory => return ExitCode::from(2),
-        Err(_) => return ExitCode::from(7),
+// Says why a run ended with a status, behind which nothing is done where standard error fails.
+fn tell(rt: &HostRuntime, status: u8, line: &KeptLine) {
+    let told = match status {
+        0 => Ok(()),
+        3 => eprintln!(rt;
+            "avs: line {} is no statement: {}",
+            line.number(),
+            line_message(rt, line)
+        ),
+        _ => eprintln!(rt; "avs: {}", message(status)),
     };
-    let mut source = Reading::new(rt.reader());
-    let mut sink = Writing::new(io::writer(&rt));
+    let _ = told;
+}
+
+fn run(rt: &HostRuntime, words: &Vec<String>) -> u8 {
+    let alloc = rt.alloc();
+    let mut source = Told::new(Reading::new(rt.reader()));
+    let mut sink = Writing::new(io::writer(rt));
     let mut rack = MemRack::new(Vec::new(alloc), Vec::new(alloc));
     // No statement attaches a tap yet.
     let taps = Vec::new(alloc);
-    ExitCode::from(run_script(alloc, &words, &mut source, &mut sink, &mut rack, taps))
+    let status = run_script(alloc, words, &mut source, &mut sink, &mut rack, taps);
+    tell(rt, status, source.line());
+    status
+}
+
+fn main(rt: HostRuntime) -> ExitCode {
+    let words = match words_of(&rt) {
+        Ok(words) => words,
+        Err(why) => {
+            // A word that is no text is a word too.
+            let status = if why.kind() == io::ErrorKind::OutOfMemory {
+                7
+            } else {
+                2
+            };
+            tell(&rt, status, &KeptLine::new());
+            return ExitCode::from(status);
+        }
+    };
+    ExitCode::from(run(&rt, &words))
 }

@@ -4,10 +4,9 @@
 mod built;
 mod error;
 mod line;
+mod reasons;
 
 pub use built::is_built;
 pub use error::LineError;
 pub use line::read_line;
-
-#[cfg(test)]
-mod tests;
+pub use reasons::{BadLine, reason};

@@ -13,7 +13,7 @@ use avs_text::{WordReader, host_named, is_group_name, is_volume_name, number, pa
 use std::alloc::Global;
 
 // The most bytes of a line.
-const LONGEST_LINE: usize = 4096;
+pub(crate) const LONGEST_LINE: usize = 4096;
 
 // `volume H V N`, behind its first word.
 fn read_volume(alloc: Global, words: &mut WordReader<'_>) -> Result<Event, LineError>
@@ -267,7 +267,11 @@ fn read_fault(alloc: Global, word: &[u8], words: &mut WordReader<'_>) -> Result<
 }
 
 // The event that a first word and the words behind it are.
-fn read_event(alloc: Global, word: &[u8], words: &mut WordReader<'_>) -> Result<Event, LineError>
+pub(crate) fn read_event(
+    alloc: Global,
+    word: &[u8],
+    words: &mut WordReader<'_>,
+) -> Result<Event, LineError>
     ensures ok { IfOk result (λ event. words_event word.now words.old ≡ Some event) }
     ensures bad { (result ≡ Err LineError.Bad) ↔ (words_event word.now words.old ≡ None) }
 {

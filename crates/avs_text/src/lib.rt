@@ -7,8 +7,6 @@ mod filling;
 mod names;
 mod numbers;
 mod print;
-#[cfg(test)]
-mod tests;
 mod words;
 
 pub use equal_runs::runs;

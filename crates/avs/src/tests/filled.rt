@@ -1,13 +1,13 @@
 // Reads of disks that hold other blocks than a statement can write so far.
-ghost use Rattle.std.specs.Prelude.{◌<◌, ◌^◌, false, []};
+ghost use Rattle.std.specs.Prelude.{◌<◌, ◌^◌, false, refl, None, []};
 
+use super::{copy, same};
 use avs_dev::{Arm, Disk, Rack, RackFault, Tear};
 use avs_io::{MemSink, MemSource};
 use avs_run::run_script;
 use avs_seg::{BLOCK, Failed};
 use std::alloc::Global;
 use std::process::Abort;
-use std::test::Fail;
 
 /// A disk that holds these bytes and then zeros, and takes no others. It does not tell them to contracts.
 #[derive(Drop)]
@@ -19,9 +19,11 @@ struct Filled {
 }
 
 impl Disk for Filled {
-    ghost seen = { λ d. record { image = []; size = d.blocks; faults = d.faults; written = 0; steady = false; armed = false; arms = false } };
+    ghost seen = { λ d. record { image = []; size = d.blocks; faults = d.faults; written = 0; steady = false; armed = false; tear = None; arms = false } };
 
     ghost fits = { λ d. d.in_range };
+
+    ghost armed_is = { λ _. refl };
 
     fn blocks(&self) -> u32 {
         self.blocks
@@ -57,16 +59,19 @@ impl Arm for Filled {
 #[derive(Drop)]
 struct FilledRack {
     bytes: Vec<u8>,
+    made: u64,
 }
 
 impl Rack for FilledRack {
     type D = Filled;
 
-    ghost seen = { λ _. record { faults = 0; tells = false; steady = false } };
+    ghost seen = { λ r. record { faults = 0; made = r.made; tells = false; steady = false } };
 
     fn make(&mut self, alloc: Global, blocks: u32) -> Result<Filled, RackFault> {
+        let bytes = self.bytes.to_vec(alloc)?;
+        self.made = self.made.saturating_add(1);
         Ok(Filled {
-            bytes: self.bytes.to_vec(alloc)?,
+            bytes,
             blocks,
             faults: 0,
         })
@@ -76,28 +81,28 @@ impl Rack for FilledRack {
 /// A part that stands so many times, one behind another.
 type Parts<'a> = &'a [(u32, &'a [u8])];
 
-fn joined(alloc: Global, parts: Parts<'_>) -> Result<Vec<u8>, Fail> {
+fn repeat(rt: &impl Abort, bytes: &mut Vec<u8>, times: u32, part: &[u8]) {
+    for _ in 0..times {
+        bytes.extend_from_slice(part).expect(rt, "memory");
+    }
+}
+
+fn joined(rt: &impl Abort, alloc: Global, parts: Parts<'_>) -> Vec<u8> {
     let mut bytes = Vec::new(alloc);
     for &(times, part) in parts {
-        for _ in 0..times {
-            bytes.extend_from_slice(part)?;
-        }
+        repeat(rt, &mut bytes, times, part);
     }
-    Ok(bytes)
+    bytes
 }
 
 // Reads the first three blocks of a disk that begins with `held`, and looks at what is printed.
-fn check_read(
-    rt: &impl Abort,
-    alloc: Global,
-    held: Parts<'_>,
-    want: Parts<'_>,
-) -> Result<(), Fail> {
+fn check_read(rt: &impl Abort, alloc: Global, held: Parts<'_>, want: Parts<'_>) {
     let script = b"volume p /v/a 64\nread p /v/a 0 3\n";
-    let mut source = MemSource::new(script.to_vec(alloc)?, 1000, Vec::new(alloc));
-    let mut sink = MemSink::new(alloc, 10_000, Vec::new(alloc))?;
+    let mut source = MemSource::new(copy(rt, alloc, script), 1000, Vec::new(alloc));
+    let mut sink = MemSink::new(alloc, 10_000, Vec::new(alloc)).expect(rt, "memory");
     let mut rack = FilledRack {
-        bytes: joined(alloc, held)?,
+        bytes: joined(rt, alloc, held),
+        made: 0,
     };
     let words = Vec::new(alloc);
     let status = run_script(
@@ -108,13 +113,12 @@ fn check_read(
         &mut rack,
         Vec::new(alloc),
     );
-    assert_eq!(rt; sink.bytes(), joined(alloc, want)?.as_slice());
-    assert_eq!(rt; status, 0);
-    Ok(())
+    same(rt, sink.bytes(), joined(rt, alloc, want).as_slice());
+    same(rt, status, 0);
 }
 
 #[test]
-fn blocks_are_printed_by_their_shortest_period(rt: HostRuntime) -> Result<(), Fail> {
+fn blocks_are_printed_by_their_shortest_period(rt: HostRuntime) {
     let cases: [(u32, &[u8], &[u8]); 9] = [
         (512, b"\xab", b"ab"),
         (256, b"\x01\x23", b"0123"),
@@ -132,13 +136,12 @@ fn blocks_are_printed_by_their_shortest_period(rt: HostRuntime) -> Result<(), Fa
             rt.alloc(),
             &[(2 * times, part)],
             &[(1, b"ok\ndata 2*"), (1, text), (1, b" 1*00\n")],
-        )?;
+        );
     }
-    Ok(())
 }
 
 #[test]
-fn other_blocks_are_printed_whole(rt: HostRuntime) -> Result<(), Fail> {
+fn other_blocks_are_printed_whole(rt: HostRuntime) {
     let cases: [(Parts<'_>, Parts<'_>); 6] = [
         // Another first byte, another last byte, and another one in the last period.
         (&[(1, b"\x01"), (511, b"\x00")], &[(1, b"01"), (511, b"00")]),
@@ -165,20 +168,19 @@ fn other_blocks_are_printed_whole(rt: HostRuntime) -> Result<(), Fail> {
         ),
     ];
     for (held, text) in cases {
-        let held = joined(rt.alloc(), held)?;
-        let text = joined(rt.alloc(), text)?;
+        let held = joined(&rt, rt.alloc(), held);
+        let text = joined(&rt, rt.alloc(), text);
         check_read(
             &rt,
             rt.alloc(),
             &[(1, &held)],
             &[(1, b"ok\ndata 1*"), (1, &text), (1, b" 2*00\n")],
-        )?;
+        );
     }
-    Ok(())
 }
 
 #[test]
-fn equal_blocks_are_one_run_behind_another_block(rt: HostRuntime) -> Result<(), Fail> {
+fn equal_blocks_are_one_run_behind_another_block(rt: HostRuntime) {
     let cases: [(Parts<'_>, Parts<'_>); 5] = [
         (
             &[(512, b"\x01"), (1024, b"\x02")],
@@ -203,7 +205,6 @@ fn equal_blocks_are_one_run_behind_another_block(rt: HostRuntime) -> Result<(), 
         ),
     ];
     for (held, want) in cases {
-        check_read(&rt, rt.alloc(), held, want)?;
+        check_read(&rt, rt.alloc(), held, want);
     }
-    Ok(())
 }

@@ -1,0 +1,5 @@
+//! Lines of scripts, and what each is read as.
+#![tactic(auto)]
+
+#[cfg(test)]
+mod tests;
