@@ -1,0 +1,11 @@
+pub mod Entries
+pub mod Due
+pub mod Half
+pub mod Pair
+pub mod Moves
+pub mod Allowed
+pub mod Events
+pub mod Accepts
+pub mod Stops
+pub mod Steps
+pub mod Reached
