@@ -129,4 +129,5 @@ module _ (old new : Queue) (upto k : ℕ) (entries : new.entries ≡ drop k old.
       | inl below ↦ entry_at-below new p below ∙ sym (entry_at-below old p (omega arith))
       | inr from ↦ kept p from
     ];
+    empties = λ all. entries ∙ dropped ∙ drop_of_length-le old.entries (omega arith);
   }

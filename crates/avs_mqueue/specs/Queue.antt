@@ -62,3 +62,5 @@ pub record Advances (old : Queue) (upto : ℕ) (new : Queue) : Type 0 where
   -- by place
   pub gone : (p : ℕ) → p ≤ upto → entry_at new p ≡ None
   pub others : (p : ℕ) → upto < p → entry_at new p ≡ entry_at old p
+  -- where no entry is above the place none is held, and the next one may have any place
+  pub empties : next_place old ≤ upto + 1 → new.entries ≡ []

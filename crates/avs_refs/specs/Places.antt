@@ -1,5 +1,5 @@
 -- Which place touched a segment last, and which places are outstanding.
-use Rattle.std.specs.Prelude.{◌≡◌, ℕ, ◌+◌, ◌-◌, ◌<◌, ◌≤◌, ◌==◌, Bool, true, false, ◌&&◌, ◌||◌, not, nat_le, nat_lt, if◌then◌else◌, List, [], ◌∷◌, ◌++◌, length, replicate, filter, count_by, slice_index, slice_set, All}
+use Rattle.std.specs.Prelude.{◌≡◌, ◌⊎◌, ℕ, ◌+◌, ◌-◌, ◌<◌, ◌≤◌, ◌==◌, Bool, true, false, ◌&&◌, ◌||◌, not, nat_le, nat_lt, if◌then◌else◌, List, [], ◌∷◌, ◌++◌, Option, None, Some, length, replicate, filter, count_by, slice_index, slice_set, All}
 use Rattle.std.specs.List.{list_any}
 use Rattle.avs_seg.specs.Image.{is_inside}
 use Rattle.avs_seg.specs.Segment.{first_segment, touch_count}
@@ -80,3 +80,36 @@ pub record KeepsOutstanding (old new : Places) : Type 0 where
   pub segs : length new.greatest ≡ length old.greatest
   pub room : new.room ≡ old.room
   pub above : (next : ℕ) → IsAbove next old → IsAbove next new
+
+-- ---- places that are retired, and the segments that are given then
+
+-- no segment is left to be given
+pub record IsDrained (places : Places) : Type 0 where
+  pub none : (seg : ℕ) → is_left places seg ≡ false
+
+-- a place frees the segment: the greatest that touched it is not above
+abbrev pub is_freed : Places → ℕ → ℕ → Bool
+is_freed places upto seg = nat_lt 0 (greatest_at places seg) && nat_le (greatest_at places seg) upto
+
+-- the places up to this one are retired, and of the segments that it frees some were given
+pub record Drains (old : Places) (upto : ℕ) (new : Places) : Type 0 where
+  pub outstanding : new.outstanding ≡ places_above upto old.outstanding
+  pub segs : length new.greatest ≡ length old.greatest
+  pub room : new.room ≡ old.room
+  pub each : (seg : ℕ) → (greatest_at new seg ≡ greatest_at old seg)
+      ⊎ ((is_freed old upto seg ≡ true) × (greatest_at new seg ≡ 0))
+
+-- the places up to this one are retired, and exactly the segments that it frees were given; where no place is above it, places may begin again at 1
+pub record Frees (old : Places) (upto : ℕ) (new : Places) : Type 0 where
+  pub outstanding : new.outstanding ≡ places_above upto old.outstanding
+  pub segs : length new.greatest ≡ length old.greatest
+  pub room : new.room ≡ old.room
+  pub greatest : (seg : ℕ) → greatest_at new seg ≡ (if is_freed old upto seg then 0 else greatest_at old seg)
+  pub drained : IsDrained new
+  pub ended : All (λ p. p ≤ upto) old.outstanding → new.outstanding ≡ []
+  pub reset : All (λ p. p ≤ upto) old.outstanding → IsAbove 1 new
+
+-- what an answer is, where a place was retired behind drained places: one more of the segments that it frees is given, or all were
+abbrev pub GoesOnDraining : Places → ℕ → Places → Option ℕ → Places → Type 0
+GoesOnDraining start upto old None new = Frees start upto new
+GoesOnDraining start upto old (Some seg) new = Drains start upto new × (is_freed start upto seg ≡ true) × (greatest_at old seg ≡ greatest_at start seg)

@@ -1,6 +1,6 @@
 // The greatest place that touched each segment, and the places that are outstanding.
 ghost use Rattle.std.specs.Prelude.{◌≡◌, ◌+◌, ◌*◌, ◌^◌, ◌<◌, ◌≤◌, ◌==◌, ◌&&◌, ◌||◌, ℕ, false, if◌then◌else◌, IfOk, IfSome, IfNone, length, slice_index};
-ghost use Rattle.avs_refs.specs.Places.{untouched, is_idle, is_left, is_touched, IsAbove, Adds, Retires, Gives, KeepsOutstanding};
+ghost use Rattle.avs_refs.specs.Places.{Places, untouched, is_idle, is_left, is_touched, IsAbove, IsDrained, Adds, Retires, Gives, KeepsOutstanding, Drains, GoesOnDraining};
 ghost use Rattle.avs_refs.specs.Listed.{has_at};
 ghost use Rattle.avs_refs.specs.Touches.{is_touched_by};
 
@@ -42,6 +42,7 @@ impl Refs {
     pub fn new(alloc: Global, segs: u32, places: u32) -> Result<Refs, NoMemory>
         ensures untouched { IfOk result (λ r. r ≡ untouched segs places) }
         ensures above { IfOk result (λ r. (next : ℕ) → 0 < next → IsAbove next r) }
+        ensures drained { IfOk result IsDrained }
     {
         Ok(Refs {
             greatest: vec![in alloc; 0; segs as usize]?,
@@ -68,7 +69,8 @@ impl Refs {
 
     /// Each place at or below this one is outstanding no more.
     pub fn retire(&mut self, upto: u64)
-        ensures { Retires self.old upto self.new }
+        ensures retires { Retires self.old upto self.new }
+        ensures drains { Drains self.old upto self.new }
     {
         while let Some(touch) = pop_retired(&mut self.outstanding, upto) {
             list_freed(&self.greatest, touch, &mut self.candidates);
@@ -76,11 +78,15 @@ impl Refs {
     }
 
     /// A segment that has become idle and was not given since it was touched, if there is one. The order is any.
+    /// Asked again until there is none, it gives exactly the segments that the last retired place frees; where no place
+    /// is outstanding then, places may begin again at 1.
     pub fn next_idle(&mut self) -> Option<u32>
         ensures kept { KeepsOutstanding self.old self.new }
         ensures some { IfSome result (λ seg. Gives self.old seg self.new) }
         ensures none { IfNone result ((seg : ℕ) → is_left self.old seg ≡ false) }
         ensures unchanged { IfNone result (self.new ≡ self.old) }
+        ensures draining { (start : Places) (upto : ℕ) → IsDrained start → Drains start upto self.old
+            → GoesOnDraining start upto self.old result self.new }
     {
         while let Some(seg) = self.candidates.take() {
             if is_left(&self.outstanding, self.greatest[seg as usize]) {

@@ -1,9 +1,11 @@
 use Rattle.std.proofs.Common.{◌<◌, List, Bool, length, set, ap, sym, refl, subst, ◌∙◌, arith}
 use Rattle.std.proofs.lemmas.List.{get_or_read, length-set}
-use Rattle.avs_refs.specs.Places.{Places, Gives}
+use Rattle.std.proofs.lemmas.Grind.{common_steps}
+use Rattle.avs_refs.specs.Places.{Places, Gives, Frees}
 use Rattle.avs_refs.specs.Touches.{places_of, IsConsistent}
 use Rattle.avs_refs.proofs.Consistent.{left_yes, left_no, unlisted, given}
 use Rattle.avs_refs.proofs.Changes.{same_places, gives}
+use Rattle.avs_refs.proofs.Draining.{gives_freed, all_given}
 use Rattle.avs_refs.proofs.refs.Refs.next_idle.Goals as goal
 
 pub invariant_of-self : goal.invariant_of-self
@@ -46,3 +48,16 @@ loop-seg-preserved c =
       capacity = so_far.capacity;
       room = so_far.room;
     }
+
+pub returns-then-is_left-clause-draining : goal.returns-then-is_left-clause-draining
+returns-then-is_left-clause-draining c = λ start upto drained so_far. gives_freed start _ upto drained so_far c.in-Some.seg _ (returns-then-is_left-clause-some c)
+
+pub returns-clause-unchanged : goal.returns-clause-unchanged
+returns-clause-unchanged c = grind (arith, common_steps)
+
+pub returns-clause-none : goal.returns-clause-none
+returns-clause-none c = grind (arith, common_steps)
+
+pub returns-clause-draining : goal.returns-clause-draining
+returns-clause-draining c = λ start upto drained so_far.
+    subst (Frees start upto) (sym (returns-clause-unchanged c)) (all_given start c.args.self.now upto drained so_far (returns-clause-none c))

@@ -7,6 +7,7 @@ use Rattle.avs_refs.specs.Touches.{places_of, IsConsistent}
 use Rattle.avs_refs.proofs.Rising.{all_above}
 use Rattle.avs_refs.proofs.Consistent.{retired}
 use Rattle.avs_refs.proofs.Changes.{retires}
+use Rattle.avs_refs.proofs.Draining.{drains}
 use Rattle.avs_refs.proofs.refs.Refs.retire.Goals as goal
 
 pub loop-touch-preserved : goal.loop-touch-preserved
@@ -29,8 +30,8 @@ loop-touch-preserved c =
       room = so_far.room;
     }
 
-pub returns : goal.returns
-returns c = rw (← c.self.view_is) (
+pub returns-clause-retires : goal.returns-clause-retires
+returns-clause-retires c = rw (← c.self.view_is) (
     let start = c.self.inside in
     let so_far = c.loop-touch.invariant in
     let behind = c.in_default.ensures in
@@ -38,3 +39,6 @@ returns c = rw (← c.self.view_is) (
     let P : List ℕ → Type 0 = λ l. All (λ p. c.args.upto < p) l in
     retires (record { greatest = start.greatest.items; outstanding = places_of start.outstanding.items; room = start.room }) _ c.args.upto c.self.invariant.0.rising
     (ap (places_above c.args.upto) kept ∙ so_far.outstanding) (subst P (sym kept) (all_above _ c.args.upto so_far.consistent.rising behind.none)) so_far.greatest so_far.room)
+
+pub returns-clause-drains : goal.returns-clause-drains
+returns-clause-drains c = drains _ _ c.args.upto (returns-clause-retires c)

@@ -1,0 +1,4 @@
+pub mod Areas
+pub mod Reading
+pub mod Writing
+pub mod Landings

@@ -1,0 +1,4 @@
+pub mod Landed
+pub mod Landing
+pub mod Redo
+pub mod Steps

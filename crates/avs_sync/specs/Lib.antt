@@ -1,0 +1,4 @@
+pub mod Machine
+pub mod Note
+pub mod Parts
+pub mod Session
