@@ -1,0 +1,13 @@
+pub mod Quarters
+pub mod Counts
+pub mod Sums
+pub mod StateBlocks
+pub mod Going
+pub mod Copied
+pub mod Images
+pub mod Formatting
+pub mod Settled
+pub mod Staged
+pub mod Readings
+pub mod Chained
+pub mod Written

@@ -1,0 +1,12 @@
+use Rattle.std.proofs.Common.{◌≡◌, ℕ, ◌+◌, ◌-◌, ◌*◌, length, take, drop, length-take, length-drop, ap, ◌∙◌, arith}
+use Rattle.avs_chunks.proofs.Staged.{stages_next}
+use Rattle.avs_chunks.proofs.staging.stage_next.Goals as goal
+
+-- the bytes of a block
+block_long : (part : ℕ) → 512 * part + 512 - 512 * part ≡ 512
+block_long part = omega arith
+
+pub returns : goal.returns
+returns g c =
+    stages_next c.args.flip.now c.stage.new.self c.args.next.now c.copy_from_slice.new.self c.args.part c.requires.inside c.requires.first (omega arith)
+    (c.copy_from_slice.ensures.after ∙ ap (λ (n : ℕ). take n (drop (512 * c.args.part) c.args.next.now)) (block_long c.args.part)) c.stage.result c.stage.ensures

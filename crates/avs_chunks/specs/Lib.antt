@@ -1,0 +1,11 @@
+pub mod States
+pub mod ChunkSet
+pub mod Disks
+pub mod Steps
+pub mod Calls
+pub mod Making
+pub mod Finding
+pub mod Staging
+pub mod Copying
+pub mod Writing
+pub mod Arming

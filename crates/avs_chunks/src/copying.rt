@@ -1,0 +1,99 @@
+// Copy steps, and how many of them are left.
+ghost use Rattle.std.specs.Prelude.{◌≡◌, ◌*◌, ◌≤◌, ◌^◌, IsTrue, is_some, length};
+ghost use Rattle.avs_chunks.specs.States.{code_of, state_in};
+ghost use Rattle.avs_chunks.specs.ChunkSet.{chunks_of, state_of};
+ghost use Rattle.avs_chunks.specs.Copying.{FindsDue, CopiesOne, is_independent, is_due, back_of, left_of, moved_of};
+
+use crate::chunks::Chunks;
+use crate::states::{ChunkState, count_in, state_in};
+use avs_dev::Disk;
+use avs_model::Kind;
+use avs_seg::{Failed, seg_count};
+
+// Whether a set is independent.
+fn is_independent(kind: Kind) -> bool
+    ensures { result ≡ is_independent kind }
+{
+    match kind {
+        Kind::Ind => true,
+        Kind::Dep | Kind::Compact => false,
+    }
+}
+
+// Whether a chunk in a state is to be copied.
+fn is_due(independent: bool, state: ChunkState) -> bool
+    ensures { result ≡ is_due independent (code_of state) }
+{
+    match state {
+        ChunkState::OnShadow => true,
+        ChunkState::OnMaster => independent,
+        ChunkState::OnBoth | ChunkState::Split => false,
+    }
+}
+
+// The least chunk below an end that is to be copied.
+fn first_due(bytes: &[u8], end: u32, independent: bool) -> Option<u32>
+    requires { end ≤ 4 * length bytes.now }
+    ensures { FindsDue (state_in bytes.now) independent end result }
+{
+    for chunk in 0..end {
+        if is_due(independent, state_in(bytes, chunk)) {
+            return Some(chunk);
+        }
+    }
+    None
+}
+
+impl<D: Disk> Chunks<D> {
+    // The least chunk that is to be copied.
+    fn next_due(&self) -> Option<u32>
+        ensures { FindsDue (state_of self.now) (is_independent self.now.kind) (chunks_of self.now) result }
+    {
+        first_due(
+            &self.memory,
+            seg_count(self.blocks),
+            is_independent(self.kind),
+        )
+    }
+
+    /// Copies the least chunk that stands on the shadow alone, or of an independent set on the master alone, to the other
+    /// disk. The answer is that chunk, and None exactly where there is none.
+    pub fn copy_one(&mut self, master: &mut D) -> Result<Option<u32>, Failed>
+        requires blocks { (D.seen master.old).size ≡ self.old.blocks }
+        requires there { IsTrue (is_some self.old.shadow) }
+        ensures { CopiesOne self.old (D.seen master.old) result self.new (D.seen master.new) }
+    {
+        let Some(chunk) = self.next_due() else {
+            return Ok(None);
+        };
+        self.settle(master, chunk, ChunkState::OnBoth)?;
+        Ok(Some(chunk))
+    }
+
+    /// How many chunks stand on the shadow alone.
+    pub fn back(&self) -> u32
+        ensures counted { result ≡ back_of self.now }
+        ensures most { result ≤ 2 ^ 26 }
+    {
+        count_in(&self.memory, seg_count(self.blocks), ChunkState::OnShadow)
+    }
+
+    /// How many chunks are split.
+    pub fn moved(&self) -> u32
+        ensures counted { result ≡ moved_of self.now }
+        ensures most { result ≤ 2 ^ 26 }
+    {
+        count_in(&self.memory, seg_count(self.blocks), ChunkState::Split)
+    }
+
+    /// How many chunks of an independent set stand on the master alone. Of a set of another kind none counts.
+    pub fn left(&self) -> u32
+        ensures counted { result ≡ left_of self.now }
+        ensures most { result ≤ 2 ^ 26 }
+    {
+        match self.kind {
+            Kind::Ind => count_in(&self.memory, seg_count(self.blocks), ChunkState::OnMaster),
+            Kind::Dep | Kind::Compact => 0,
+        }
+    }
+}

@@ -1,0 +1,3 @@
+pub mod Giving
+pub mod Labels
+pub mod Taking

@@ -1,0 +1,5 @@
+//! Overflow volumes over disks in memory, by their public calls.
+#![tactic(auto)]
+
+#[cfg(test)]
+mod tests;
