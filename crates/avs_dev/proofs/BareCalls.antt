@@ -9,23 +9,29 @@ use Rattle.avs_seg.proofs.Bytes.{blocks_of_one}
 use Rattle.avs_seg.proofs.Mixes.{mix_one}
 use Rattle.avs_seg.proofs.Puts.{put_one}
 use Rattle.avs_seg.proofs.Ranges.{range_one}
-use Rattle.avs_dev.specs.Seen.{Seen, IsTold, IsRange, Reads, Writes}
+use Rattle.avs_dev.specs.Seen.{Seen, IsTold, IsRange, Reads, Writes, shown}
 use Rattle.avs_dev.specs.Below.{BelowSeen, image_of, size_of, IsToldAt, IsNoteTold, IsRangeOf, ReadsBelow, WritesBelow, SetsNote}
 use Rattle.avs_dev.specs.Bare.{BareDisks, disks_of, volume_at, note_in, note_block, stored_on, below_of, written_on, AddsBlocks, ReadsVolume, WritesVolume, WritesNote, Opens}
-use Rattle.avs_dev.proofs.Going.{goes_err, writes_err}
+use Rattle.avs_dev.proofs.Going.{shown_told, told_shown, goes_err, writes_err}
 use Rattle.avs_dev.proofs.SomeDisks.{HasOneCause_at, UsesOneTear_at, steady_same, steady_at}
 
 -- ---- a volume
 
 module _ (b : BareDisks) (vol : ℕ) (there : vol < length b.volumes) where
-  pub image_is : image_of (below_of b) vol ≡ (volume_at b vol).image
-  image_is = get_or-map (λ (d : Seen). d.image) b.volumes vol b.state [] there
+  pub image_is : image_of (below_of b) vol ≡ shown (volume_at b vol)
+  image_is = get_or-map shown b.volumes vol b.state [] there
 
   pub size_is : size_of (below_of b) vol ≡ (volume_at b vol).size
   size_is = get_or-map (λ (d : Seen). d.size) b.volumes vol b.state 0 there
 
-  pub told_is : IsToldAt (below_of b) vol → IsTold (volume_at b vol)
-  told_is told = ap (λ (i : Image). length i) (sym image_is) ∙ told ∙ size_is
+  pub told_is : 0 < (volume_at b vol).size → IsToldAt (below_of b) vol → IsTold (volume_at b vol)
+  told_is some told = told_shown (volume_at b vol) some (ap (λ (i : Image). length i) (sym image_is) ∙ told ∙ size_is)
+
+  pub image_told : IsTold (volume_at b vol) → image_of (below_of b) vol ≡ (volume_at b vol).image
+  image_told told = image_is ∙ shown_told (volume_at b vol) told
+
+  pub has_blocks : (at len : ℕ) → IsRangeOf (below_of b) vol at len → 0 < (volume_at b vol).size
+  has_blocks at len r = omega (arith, r.some, r.whole, r.inside, size_is)
 
   pub is_range : (at len : ℕ) → IsRangeOf (below_of b) vol at len → IsRange (volume_at b vol) at len
   is_range at len r = record { some = r.some; whole = r.whole; inside = omega (arith, r.inside, size_is) }
@@ -42,11 +48,11 @@ module _ (b : BareDisks) (vol : ℕ) (new : Seen) (there : vol < length b.volume
   there_after : vol < length (set b.volumes vol new)
   there_after = omega (arith, length-set b.volumes vol new, there)
 
-  image_after : image_of (below_of after) vol ≡ new.image
-  image_after = get_or-map (λ (d : Seen). d.image) (set b.volumes vol new) vol b.state [] there_after ∙ ap (λ (d : Seen). d.image) volume_after
+  image_after : image_of (below_of after) vol ≡ shown new
+  image_after = get_or-map shown (set b.volumes vol new) vol b.state [] there_after ∙ ap shown volume_after
 
-  image_same : new.image ≡ (volume_at b vol).image → (below_of after).images ≡ (below_of b).images
-  image_same same = map-set_same (λ (d : Seen). d.image) b.volumes vol new b.state same
+  image_same : shown new ≡ shown (volume_at b vol) → (below_of after).images ≡ (below_of b).images
+  image_same same = map-set_same shown b.volumes vol new b.state same
 
   size_same : new.size ≡ (volume_at b vol).size → (below_of after).sizes ≡ (below_of b).sizes
   size_same same = map-set_same (λ (d : Seen). d.size) b.volumes vol new b.state same
@@ -66,16 +72,16 @@ module _ (b : BareDisks) (vol : ℕ) (new : Seen) (there : vol < length b.volume
       ∙ ap (λ (k : ℕ). set (written_on b) vol k) (is ∙ ap (λ (k : ℕ). min (k + n) (2 ^ 64 - 1)) (sym (get_or-map (λ (d : Seen). d.written) b.volumes vol b.state 0 there)))
 
   images_set : (below_of after).images ≡ slice_set (below_of b).images vol (image_of (below_of after) vol)
-  images_set = map-set (λ (d : Seen). d.image) b.volumes vol new ∙ ap (λ (i : Image). set (below_of b).images vol i) (sym image_after)
+  images_set = map-set shown b.volumes vol new ∙ ap (λ (i : Image). set (below_of b).images vol i) (sym image_after)
 
   image_other : (other : ℕ) → other ≢ vol → image_of (below_of after) other ≡ image_of (below_of b) other
   image_other other apart = ap (λ (l : List Image). slice_index_or l other []) images_set ∙ get_or-set_other (below_of b).images vol other (image_of (below_of after) vol) [] apart
 
-module _ {T E : Type 0} (b : BareDisks) (vol at : ℕ) (bytes : List ℕ) (result : Result T E) (new : Seen) (there : vol < length b.volumes) where
+module _ {T E : Type 0} (b : BareDisks) (vol at : ℕ) (bytes : List ℕ) (result : Result T E) (new : Seen) (there : vol < length b.volumes) (some : 0 < (volume_at b vol).size) where
   -- a read
   pub Reads-below : {S : Type 0} → Reads (volume_at b vol) at bytes result new → ReadsBelow S (below_of b) vol at bytes result (below_of (record b { volumes = slice_set b.volumes vol new }))
   Reads-below {S} r =
-      let images = image_same b vol new there (ap (λ (d : Seen). d.image) r.rest) in
+      let images = image_same b vol new there (ap shown r.rest) in
       let sizes = size_same b vol new there (ap (λ (d : Seen). d.size) r.rest) in
       let armed = armed_same b vol new there (ap (λ (d : Seen). d.armed) r.rest) in
       let steady = steady_same (disks_of b) (suc vol) new b.state (suc_there b vol new there) (ap (λ (d : Seen). d.steady) r.rest) in
@@ -90,7 +96,9 @@ module _ {T E : Type 0} (b : BareDisks) (vol at : ℕ) (bytes : List ℕ) (resul
         sizes = sizes;
         cause = HasOneCause_at (disks_of b) (suc vol) new b.state (suc_there b vol new there) result r.cause r.goes;
         told = λ any told. ap (λ (l : List Image). length (slice_index_or l any [])) images ∙ told ∙ sym (ap (λ (l : List ℕ). slice_index l any) sizes);
-        shows = λ sound told. on_ok_weaker result (λ is. is ∙ ap (λ (i : Image). range i at (length bytes / 512)) (sym (image_is b vol there))) (r.shows (told_is b vol there told));
+        shows = λ sound told.
+            let was = told_is b vol there some told in
+            on_ok_weaker result (λ is. is ∙ ap (λ (i : Image). range i at (length bytes / 512)) (sym (image_told b vol there was))) (r.shows was);
         sure = λ all. r.sure (steady_at (disks_of b) (suc vol) new b.state (suc_there b vol new there) all);
       }
 
@@ -105,8 +113,6 @@ module _ {T E : Type 0} (b : BareDisks) (vol at : ℕ) (bytes : List ℕ) (resul
   -- a write
   pub Writes-below : {S : Type 0} → Writes (volume_at b vol) at bytes result new → WritesBelow S (below_of b) vol at bytes result (below_of (record b { volumes = slice_set b.volumes vol new }))
   Writes-below {S} w =
-      let was = image_is b vol there in
-      let now = image_after b vol new there in
       let sizes = size_same b vol new there w.size in
       let s : BelowSeen = below_of (record b { volumes = slice_set b.volumes vol new }) in
       let bs = blocks_of bytes in
@@ -117,17 +123,30 @@ module _ {T E : Type 0} (b : BareDisks) (vol at : ℕ) (bytes : List ℕ) (resul
         stored = refl;
         steady = steady_same (disks_of b) (suc vol) new b.state (suc_there b vol new there) w.steady;
         cause = HasOneCause_at (disks_of b) (suc vol) new b.state (suc_there b vol new there) result w.cause w.goes;
-        done = λ sound told. on_ok_weaker result (λ is. now ∙ is ∙ ap (λ (i : Image). put i at bs) (sym was)) (w.done (told_is b vol there told));
-        failed = λ sound told. on_err_weaker result (λ mixed. subst (λ (i : Image). IsMix i at bs (image_of s vol)) (sym was) (subst (λ (i : Image). IsMix (volume_at b vol).image at bs i) (sym now) mixed)) (w.failed (told_is b vol there told));
+        done = λ sound told.
+            let first = told_is b vol there some told in
+            on_ok_weaker result (λ is. now first w ∙ is ∙ ap (λ (i : Image). put i at bs) (sym (was first))) (w.done first);
+        failed = λ sound told.
+            let first = told_is b vol there some told in
+            on_err_weaker result (λ mixed.
+            subst (λ (i : Image). IsMix i at bs (image_of s vol)) (sym (was first))
+            (subst (λ (i : Image). IsMix (volume_at b vol).image at bs i) (sym (now first w)) mixed)) (w.failed first);
         within = λ sound told.
-            subst (λ (i : Image). ChangesWithin at (length bytes / 512) i (image_of s vol)) (sym was)
-            (subst (λ (i : Image). ChangesWithin at (length bytes / 512) (volume_at b vol).image i) (sym now) (w.within (told_is b vol there told)));
+            let first = told_is b vol there some told in
+            subst (λ (i : Image). ChangesWithin at (length bytes / 512) i (image_of s vol)) (sym (was first))
+            (subst (λ (i : Image). ChangesWithin at (length bytes / 512) (volume_at b vol).image i) (sym (now first w)) (w.within first));
         told = told_after w sizes;
         kept = image_other b vol new there;
         still_armed = on_ok_weaker result (armed_same b vol new there) w.still_armed;
         spent = λ all. on_err_weaker result (UsesOneTear_at (disks_of b) (suc vol) new b.state (suc_there b vol new there)) (w.spent (steady_at (disks_of b) (suc vol) new b.state (suc_there b vol new there) all));
       }
     where
+      was : IsTold (volume_at b vol) → image_of (below_of b) vol ≡ (volume_at b vol).image
+      was first = image_told b vol there first
+
+      now : IsTold (volume_at b vol) → Writes (volume_at b vol) at bytes result new → image_of (below_of (record b { volumes = slice_set b.volumes vol new })) vol ≡ new.image
+      now first w = image_after b vol new there ∙ shown_told new (w.told first)
+
       told_after : Writes (volume_at b vol) at bytes result new → (below_of (record b { volumes = slice_set b.volumes vol new })).sizes ≡ (below_of b).sizes → (any : ℕ) → IsToldAt (below_of b) any → IsToldAt (below_of (record b { volumes = slice_set b.volumes vol new })) any
       told_after w sizes any told =
           let same = ap (λ (l : List ℕ). slice_index l any) sizes in
@@ -137,7 +156,7 @@ module _ {T E : Type 0} (b : BareDisks) (vol at : ℕ) (bytes : List ℕ) (resul
           ]
         where
           told_there : Writes (volume_at b vol) at bytes result new → (below_of (record b { volumes = slice_set b.volumes vol new })).sizes ≡ (below_of b).sizes → IsToldAt (below_of b) vol → IsToldAt (below_of (record b { volumes = slice_set b.volumes vol new })) vol
-          told_there w sizes told = ap (λ (i : Image). length i) (image_after b vol new there) ∙ w.told (told_is b vol there told) ∙ w.size ∙ sym (size_is b vol there) ∙ sym (ap (λ (l : List ℕ). slice_index l vol) sizes)
+          told_there w sizes told = ap (λ (i : Image). length i) (now (told_is b vol there some told) w) ∙ w.told (told_is b vol there some told) ∙ w.size ∙ sym (size_is b vol there) ∙ sym (ap (λ (l : List ℕ). slice_index l vol) sizes)
 
   pub Writes-volume : Writes (volume_at b vol) at bytes result new → WritesVolume b vol at bytes result (record b { volumes = slice_set b.volumes vol new })
   Writes-volume w =

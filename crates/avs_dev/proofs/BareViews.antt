@@ -1,12 +1,12 @@
 -- The same of disks of any type, which contracts see.
-use Rattle.std.proofs.Common.{◌≡◌, ◌<◌, ℕ, suc, Bool, true, not, IsTrue, Some, List, length, map, set, get_or, slice_index_or, slice_set, Result, is_ok, refl, sym, ◌∙◌, ap, subst, arith}
+use Rattle.std.proofs.Common.{◌≡◌, ◌<◌, ℕ, suc, Bool, not, IsTrue, Some, List, length, map, set, get_or, slice_index_or, slice_set, Result, is_ok, refl, sym, ◌∙◌, ap, subst, arith}
 use Rattle.std.proofs.lemmas.List.{get_or-map, map-set, set-get_or, length-map}
 use Rattle.std.proofs.lemmas.Option.{slice_get-get_or}
 use Rattle.avs_dev.specs.Seen.{Seen, IsRange, Reads, Writes, Arms, with_tear}
 use Rattle.avs_dev.specs.declared.disk.Tear.{Tear}
 use Rattle.avs_dev.specs.Below.{IsRangeOf, ReadsBelow, WritesBelow, size_of}
 use Rattle.avs_dev.specs.Bare.{BareDisks, disks_of, volume_at, below_of, written_on, AddsBlocks, ReadsVolume, WritesVolume, ArmsBare, written_of}
-use Rattle.avs_dev.proofs.BareCalls.{is_range, size_is, written_same, Reads-below, Reads-volume, Writes-below, Writes-volume, Writes-adds}
+use Rattle.avs_dev.proofs.BareCalls.{is_range, has_blocks, size_is, written_same, Reads-below, Reads-volume, Writes-below, Writes-volume, Writes-adds}
 
 -- disks as contracts see them
 abbrev pub seen_as : {A : Type 0} → (A → Seen) → A → List A → List ℕ → BareDisks
@@ -37,30 +37,33 @@ module _ {A : Type 0} (seen : A → Seen) (state : A) (volumes : List A) (note :
         ap (λ (x : BareDisks). record x { volumes = slice_set x.volumes vol (seen new) }) (sym view)
         ∙ ap (λ (l : List Seen). record (seen_as seen state volumes note) { volumes = l }) (sym (map-set seen volumes vol new))
 
-    module _ {T E : Type 0} (at : ℕ) (bytes : List ℕ) (result : Result T E) where
+    module _ {T E : Type 0} {len : ℕ} (at : ℕ) (bytes : List ℕ) (result : Result T E) (range : IsRangeOf (below_of b) vol at len) where
+      some : 0 < (volume_at b vol).size
+      some = has_blocks b vol inside at len range
+
       reads_was : Reads (seen was) at bytes result (seen new) → Reads (volume_at b vol) at bytes result (seen new)
       reads_was r = subst (λ (d : Seen). Reads d at bytes result (seen new)) was_is r
 
       pub reads_below : {S : Type 0} → Reads (seen was) at bytes result (seen new) → ReadsBelow S (below_of b) vol at bytes result (below_of (seen_as seen state (set volumes vol new) note))
-      reads_below {S} r = subst (λ (x : BareDisks). ReadsBelow S (below_of b) vol at bytes result (below_of x)) after_is (Reads-below b vol at bytes result (seen new) inside (reads_was r))
+      reads_below {S} r = subst (λ (x : BareDisks). ReadsBelow S (below_of b) vol at bytes result (below_of x)) after_is (Reads-below b vol at bytes result (seen new) inside some (reads_was r))
 
       pub reads_rest : Reads (seen was) at bytes result (seen new) → written_on (seen_as seen state (set volumes vol new) note) ≡ written_on b
       reads_rest r = subst (λ (x : BareDisks). written_on x ≡ written_on b) after_is (written_same b vol (seen new) inside (ap (λ (d : Seen). d.written) (reads_was r).rest))
 
       pub reads_volume : Reads (seen was) at bytes result (seen new) → ReadsVolume b vol at bytes result (seen_as seen state (set volumes vol new) note)
-      reads_volume r = subst (λ (x : BareDisks). ReadsVolume b vol at bytes result x) after_is (Reads-volume b vol at bytes result (seen new) inside (reads_was r))
+      reads_volume r = subst (λ (x : BareDisks). ReadsVolume b vol at bytes result x) after_is (Reads-volume b vol at bytes result (seen new) inside some (reads_was r))
 
       writes_was : Writes (seen was) at bytes result (seen new) → Writes (volume_at b vol) at bytes result (seen new)
       writes_was w = subst (λ (d : Seen). Writes d at bytes result (seen new)) was_is w
 
       pub writes_below : {S : Type 0} → Writes (seen was) at bytes result (seen new) → WritesBelow S (below_of b) vol at bytes result (below_of (seen_as seen state (set volumes vol new) note))
-      writes_below {S} w = subst (λ (x : BareDisks). WritesBelow S (below_of b) vol at bytes result (below_of x)) after_is (Writes-below b vol at bytes result (seen new) inside (writes_was w))
+      writes_below {S} w = subst (λ (x : BareDisks). WritesBelow S (below_of b) vol at bytes result (below_of x)) after_is (Writes-below b vol at bytes result (seen new) inside some (writes_was w))
 
       pub writes_rest : Writes (seen was) at bytes result (seen new) → AddsBlocks (written_on b) vol at bytes (is_ok result) (written_on (seen_as seen state (set volumes vol new) note))
       writes_rest w = subst (λ (x : BareDisks). AddsBlocks (written_on b) vol at bytes (is_ok result) (written_on x)) after_is (Writes-adds b vol at bytes result (seen new) inside (writes_was w))
 
       pub writes_volume : Writes (seen was) at bytes result (seen new) → WritesVolume b vol at bytes result (seen_as seen state (set volumes vol new) note)
-      writes_volume w = subst (λ (x : BareDisks). WritesVolume b vol at bytes result x) after_is (Writes-volume b vol at bytes result (seen new) inside (writes_was w))
+      writes_volume w = subst (λ (x : BareDisks). WritesVolume b vol at bytes result x) after_is (Writes-volume b vol at bytes result (seen new) inside some (writes_was w))
 
 -- ---- a disk by its number, of which the state disk has 0
 

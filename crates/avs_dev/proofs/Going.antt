@@ -1,8 +1,24 @@
 -- A disk, or several, through one call after another.
-use Rattle.std.proofs.Common.{◌≡◌, ◌≢◌, ◌⊎◌, inl, inr, ℕ, ◌+◌, ◌-◌, ◌^◌, ◌≤◌, min, Bool, true, false, not, IsTrue, List, Result, Ok, Err, IsErr, refl, sym, ◌∙◌, ap, subst, arith}
+use Rattle.std.proofs.Common.{◌≡◌, ◌≢◌, ◌⊎◌, inl, inr, ℕ, ◌<◌, Bool, true, false, cond, eqb, List, [], length, Result, Ok, Err, IsErr, refl, sym, ◌∙◌, ap, subst, arith}
+use Rattle.std.proofs.lemmas.Bool.{cases_Bool, eqb-true, eq-eqb}
 use Rattle.avs_seg.specs.Causes.{Rose}
-use Rattle.avs_dev.specs.Seen.{Seen, IsTold, Reads, Writes, UsesTear, Lasts, IsSpared, Fails, GoesOn, CountsTear}
-use Rattle.avs_dev.specs.Devices.{OneFails, AllGoOn}
+use Rattle.avs_dev.specs.Seen.{Seen, IsTold, shown, Writes, Lasts, IsSpared, Fails, GoesOn, CountsTear}
+use Rattle.avs_dev.specs.Devices.{AllGoOn}
+
+-- ---- what a disk shows
+
+pub shown_told : (d : Seen) → IsTold d → shown d ≡ d.image
+shown_told d told = ap (λ (b : Bool). cond b d.image []) (eq-eqb (length d.image) d.size told)
+
+-- a disk with blocks shows as many only where it tells them
+pub told_shown : (d : Seen) → 0 < d.size → length (shown d) ≡ d.size → IsTold d
+told_shown d some is = elim (cases_Bool (eqb (length d.image) d.size)) [
+  | inl same ↦ eqb-true (length d.image) d.size same
+  | inr other ↦ absurd (none d some (subst (λ (b : Bool). length (cond b d.image []) ≡ d.size) other is))
+]
+  where
+    none : (d : Seen) → 0 < d.size → 0 ≡ d.size → ⊥
+    none d some is = omega (arith, some, is)
 
 -- ---- nothing is called
 

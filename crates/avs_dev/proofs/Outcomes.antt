@@ -1,5 +1,5 @@
 -- What a write leaves of a disk in memory, as a write of a disk.
-use Rattle.std.proofs.Common.{◌≡◌, ◌≢◌, inl, inr, ℕ, ◌-◌, ◌<◌, ◌≤◌, not, eqb, IsTrue, List, Option, Some, None, is_some, false, length, Ok, Err, refl, sym, ◌∙◌, ap, subst, arith}
+use Rattle.std.proofs.Common.{◌≡◌, ◌≢◌, inl, inr, ℕ, ◌<◌, ◌≤◌, not, eqb, IsTrue, List, Option, Some, None, is_some, false, length, Ok, Err, refl, sym, ◌∙◌, ap, subst, arith}
 use Rattle.std.specs.List.{range_with_len}
 use Rattle.std.proofs.lemmas.Bool.{cases_Bool, eqb-true, eqb-false}
 use Rattle.avs_seg.specs.Image.{put, blocks_of, IsMix, ChangesWithin}

@@ -3,7 +3,7 @@ use Rattle.std.specs.Prelude.{◌≡◌, ℕ, ◌+◌, ◌-◌, ◌/◌, ◌^◌
 use Rattle.std.specs.List.{list_all}
 use Rattle.avs_seg.specs.Image.{Block, block_at}
 use Rattle.avs_seg.specs.Causes.{Rose}
-use Rattle.avs_dev.specs.Seen.{Seen, IsTold, Reads, Writes, with_tear}
+use Rattle.avs_dev.specs.Seen.{Seen, IsTold, Reads, Writes, shown, with_tear}
 use Rattle.avs_dev.specs.Below.{BelowSeen, IsNoteInStep}
 use Rattle.avs_dev.specs.declared.disk.Tear.{Tear}
 use Rattle.avs_dev.specs.declared.back.Why.{Why}
@@ -39,10 +39,10 @@ note_block note = replicate 400 0 ++ note ++ replicate 48 0
 abbrev pub stored_on : Seen → Option (List ℕ)
 stored_on d = if length d.image == d.size then Some (note_in (block_at d.image 1)) else None
 
--- what they are as volumes to write to
+-- what they are as volumes to write to: each shows its blocks where its disk tells them
 abbrev pub below_of : BareDisks → BelowSeen
 below_of b = record {
-  images = map (λ d. d.image) b.volumes;
+  images = map shown b.volumes;
   sizes = map (λ d. d.size) b.volumes;
   note = b.note;
   stored = stored_on b.state;

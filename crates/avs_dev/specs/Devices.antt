@@ -1,7 +1,8 @@
 -- Several devices in an order: which of them may have failed, and which tear that used up.
-use Rattle.std.specs.Prelude.{◌≡◌, ◌≢◌, ℕ, ◌<◌, ◌≤◌, Bool, true, false, List, length, Some, Result, OnOk, OnErr, slice_get, slice_set, slice_index}
+use Rattle.std.specs.Prelude.{◌≡◌, ◌≢◌, ℕ, ◌+◌, ◌<◌, ◌≤◌, ◌==◌, Bool, true, false, if◌then◌else◌, List, length, Some, Result, OnOk, OnErr, slice_get, slice_set, slice_index}
 use Rattle.avs_seg.specs.Causes.{Rose}
 use Rattle.avs_dev.specs.Seen.{Seen, Lasts, IsSpared, Fails}
+use Rattle.avs_dev.specs.Memory.{counted}
 
 -- counts of faults, of which none has fallen
 pub record NoneFell (old new : List ℕ) : Type 0 where
@@ -37,3 +38,12 @@ pub record AllGoOn {N T E : Type 0} (old : N → Seen) (result : Result T E) (ne
   pub lasts : (name : N) → Lasts (old name) (new name)
   pub done : OnOk result ((name : N) → IsSpared (old name) (new name))
   pub failed : OnErr result (OneFails old new)
+
+-- a count of written blocks, raised
+abbrev pub raised : ℕ → ℕ → ℕ
+raised written more = if more == 0 then written else counted written more
+
+-- so many blocks are written on each disk, and at most so many where the call fails
+pub record Adds {N T E : Type 0} (old : N → Seen) (work : N → ℕ) (result : Result T E) (new : N → Seen) : Type 0 where
+  pub done : OnOk result ((name : N) → (new name).written ≡ raised (old name).written (work name))
+  pub most : OnErr result ((name : N) → (new name).written ≤ (old name).written + work name)

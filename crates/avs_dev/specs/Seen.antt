@@ -1,5 +1,5 @@
 -- What contracts see of a disk, and what its calls make of that.
-use Rattle.std.specs.Prelude.{◌≡◌, ℕ, ◌+◌, ◌-◌, ◌*◌, ◌/◌, ◌^◌, ◌<◌, ◌≤◌, min, Bool, true, not, IsTrue, List, length, Option, Some, None, Result, OnOk, OnErr, IsOk}
+use Rattle.std.specs.Prelude.{◌≡◌, ℕ, ◌+◌, ◌-◌, ◌*◌, ◌/◌, ◌^◌, ◌<◌, ◌≤◌, ◌==◌, min, Bool, true, not, IsTrue, if◌then◌else◌, List, [], length, Option, Some, None, Result, OnOk, OnErr, IsOk}
 use Rattle.avs_seg.specs.Image.{Image, put, range, blocks_of, IsMix, ChangesWithin}
 use Rattle.avs_seg.specs.Causes.{HasCause, Rose}
 use Rattle.avs_dev.specs.declared.disk.Tear.{Tear}
@@ -19,6 +19,10 @@ pub record Seen : Type 0 where
 -- the disk tells what is in its blocks
 abbrev pub IsTold : Seen → Type 0
 IsTold d = length d.image ≡ d.size
+
+-- what it shows of its blocks: all of them where it tells them, else none
+abbrev pub shown : Seen → Image
+shown d = if length d.image == d.size then d.image else []
 
 -- so many bytes are whole blocks, one or more, and lie inside the disk from block `at` on
 pub record IsRange (d : Seen) (at len : ℕ) : Type 0 where

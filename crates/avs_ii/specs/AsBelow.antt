@@ -37,8 +37,8 @@ stored_on slots d =
     then Some (kept_on d).note
     else None
 
--- The volumes as their disks hold them. Where a chunk of a master stands on a shadow alone, its disk holds something else
--- than the master's image; none of the calls so far puts a chunk there.
+-- The volumes as their disks hold them, also where one does not tell its blocks. Where a chunk of a master stands on a shadow
+-- alone, its disk holds something else than the master's image; none of the calls so far puts a chunk there.
 abbrev pub below_of : IiDisks → BelowSeen
 below_of g = record {
   images = map (λ d. d.image) g.volumes;

@@ -10,14 +10,14 @@ read-requires g c =
 pub returns-clause-reads : goal.returns-clause-reads
 returns-clause-reads g c =
     let i = c.self.inside in
-    reads_below g.D.Disk.seen i.state i.volumes.items i.note c.args.self.now c.self.view_is c.args.vol c.index_mut.result.now c.index_mut.ensures.value c.requires.there c.read.new.self c.args.at c.read.new.out c.read.result c.read.ensures
+    reads_below g.D.Disk.seen i.state i.volumes.items i.note c.args.self.now c.self.view_is c.args.vol c.index_mut.result.now c.index_mut.ensures.value c.requires.there c.read.new.self c.args.at c.read.new.out c.read.result c.requires c.read.ensures
 
 pub returns-clause-rest : goal.returns-clause-rest
 returns-clause-rest g c =
     let i = c.self.inside in
-    reads_rest g.D.Disk.seen i.state i.volumes.items i.note c.args.self.now c.self.view_is c.args.vol c.index_mut.result.now c.index_mut.ensures.value c.requires.there c.read.new.self c.args.at c.read.new.out c.read.result c.read.ensures
+    reads_rest g.D.Disk.seen i.state i.volumes.items i.note c.args.self.now c.self.view_is c.args.vol c.index_mut.result.now c.index_mut.ensures.value c.requires.there c.read.new.self c.args.at c.read.new.out c.read.result c.requires c.read.ensures
 
 pub returns-clause-volume : goal.returns-clause-volume
 returns-clause-volume g c =
     let i = c.self.inside in
-    reads_volume g.D.Disk.seen i.state i.volumes.items i.note c.args.self.now c.self.view_is c.args.vol c.index_mut.result.now c.index_mut.ensures.value c.requires.there c.read.new.self c.args.at c.read.new.out c.read.result c.read.ensures
+    reads_volume g.D.Disk.seen i.state i.volumes.items i.note c.args.self.now c.self.view_is c.args.vol c.index_mut.result.now c.index_mut.ensures.value c.requires.there c.read.new.self c.args.at c.read.new.out c.read.result c.requires c.read.ensures

@@ -10,14 +10,14 @@ write-requires g c =
 pub returns-clause-writes : goal.returns-clause-writes
 returns-clause-writes g c =
     let i = c.self.inside in
-    writes_below g.D.Disk.seen i.state i.volumes.items i.note c.args.self.now c.self.view_is c.args.vol c.index_mut.result.now c.index_mut.ensures.value c.requires.there c.write.new.self c.args.at c.args.bytes.now c.write.result c.write.ensures
+    writes_below g.D.Disk.seen i.state i.volumes.items i.note c.args.self.now c.self.view_is c.args.vol c.index_mut.result.now c.index_mut.ensures.value c.requires.there c.write.new.self c.args.at c.args.bytes.now c.write.result c.requires c.write.ensures
 
 pub returns-clause-wrote : goal.returns-clause-wrote
 returns-clause-wrote g c =
     let i = c.self.inside in
-    writes_rest g.D.Disk.seen i.state i.volumes.items i.note c.args.self.now c.self.view_is c.args.vol c.index_mut.result.now c.index_mut.ensures.value c.requires.there c.write.new.self c.args.at c.args.bytes.now c.write.result c.write.ensures
+    writes_rest g.D.Disk.seen i.state i.volumes.items i.note c.args.self.now c.self.view_is c.args.vol c.index_mut.result.now c.index_mut.ensures.value c.requires.there c.write.new.self c.args.at c.args.bytes.now c.write.result c.requires c.write.ensures
 
 pub returns-clause-volume : goal.returns-clause-volume
 returns-clause-volume g c =
     let i = c.self.inside in
-    writes_volume g.D.Disk.seen i.state i.volumes.items i.note c.args.self.now c.self.view_is c.args.vol c.index_mut.result.now c.index_mut.ensures.value c.requires.there c.write.new.self c.args.at c.args.bytes.now c.write.result c.write.ensures
+    writes_volume g.D.Disk.seen i.state i.volumes.items i.note c.args.self.now c.self.view_is c.args.vol c.index_mut.result.now c.index_mut.ensures.value c.requires.there c.write.new.self c.args.at c.args.bytes.now c.write.result c.requires c.write.ensures
