@@ -5,7 +5,8 @@ use Rattle.std.specs.Bool.{then_some}
 use Rattle.std.specs.Option.{option_or}
 use Rattle.std.specs.List.{sum_by}
 use Rattle.std.specs.Str.{bytes_eq}
-use Rattle.avs_model.specs.Limits.{longest_read, longest_write, most_sets, most_groups, bitmap_blocks, compact_bitmap_blocks}
+use Rattle.avs_model.specs.Limits.{longest_read, longest_write, most_sets, most_groups, bitmap_blocks}
+use Rattle.avs_model.specs.ShadowSets.{kind_of, bitmap_blocks_of}
 use Rattle.avs_model.specs.State.{State, HostState, VolumeState, ShadowGroup, Use, Alone, MasterIn, ShadowIn, BitmapIn, host_of, volume_of, size_of, reach_of, is_spent, use_of, role_of, role_by, all_blocks}
 use Rattle.avs_model.specs.Refusals.{first_cause, causes, refusal, has_volume, has_group, is_bitmap, is_alone, may_be_master, sets_on}
 use Rattle.avs_model.specs.Rows.{first_row, takes_io, has_no_role, may_lead}
@@ -21,6 +22,7 @@ use Rattle.avs_model.specs.declared.event.ArmTarget.{ArmTarget}
 use Rattle.avs_model.specs.declared.event.ArmTarget.TheVariants as disk
 use Rattle.avs_model.specs.declared.event.IiCommand.TheVariants as command
 use Rattle.avs_model.specs.declared.event.Event.TheVariants.{Volume, Write, Read, Ii, Arm, Crash, Recover}
+use Rattle.avs_model.specs.declared.shadow.Kind.TheVariants.{Dep, Compact}
 use Rattle.avs_model.specs.declared.facts.HostFacts.{HostFacts}
 use Rattle.avs_model.specs.declared.facts.VolumeFacts.{VolumeFacts}
 use Rattle.avs_model.specs.declared.facts.GroupFacts.{GroupFacts}
@@ -187,9 +189,10 @@ neither_small : (dependent small : Bool) → small ≡ false → (not dependent 
 neither_small true small is = refl
 neither_small false small is = is
 
-not_compact : (dependent small : Bool) → small ≡ false → (dependent && small) ≡ false
-not_compact true small is = is
-not_compact false small is = refl
+-- a set is not compact whose shadow is not the smaller
+plain_bitmap : (dependent : Bool) (have blocks : ℕ) → nat_lt have blocks ≡ false → bitmap_blocks_of (kind_of dependent have blocks) blocks ≡ bitmap_blocks blocks
+plain_bitmap true have blocks is = ap (λ x. bitmap_blocks_of (if x then Compact else Dep) blocks) is
+plain_bitmap false have blocks is = refl
 
 -- the causes of enabling, by whether the three volumes are there
 abbrev enable_causes_by : State → Host → List ℕ → List ℕ → List ℕ → Option VolumeState → Option VolumeState → Option VolumeState → List (Bool × Refusal)
@@ -237,8 +240,7 @@ module _ (state : State) (host : Host) (dependent : Bool) (master shadow bitmap 
       let blocks = size_of held master in
       let have = size_of held shadow in
       let busy = or_three (not (is_alone (use_of held bitmap))) (bytes_eq bitmap master) (bytes_eq bitmap shadow) ∙ ap (λ x. not x || (bytes_eq bitmap master || bytes_eq bitmap shadow)) (alone (use_of held bitmap)) in
-      let need : bitmap_blocks blocks ≡ (if dependent && nat_lt have blocks then compact_bitmap_blocks blocks else bitmap_blocks blocks) =
-      sym (ap (λ x. if x then compact_bitmap_blocks blocks else bitmap_blocks blocks) (not_compact dependent (nat_lt have blocks) large)) in
+      let need : bitmap_blocks blocks ≡ bitmap_blocks_of (kind_of dependent have blocks) blocks = sym (plain_bitmap dependent have blocks large) in
       rows_of (enable_causes_by state host master shadow bitmap (Some m) (Some s) (Some b))
       ∙ (λ i. first_row
       (then_some (not held.up) (Down host)

@@ -5,13 +5,6 @@ pub mod Fitting
 pub mod Ascii
 pub mod Rows
 pub mod Passing
+pub mod FillLemmas
+pub mod HeldRuns
 pub mod Landed
-pub mod WorkedRuns
-pub mod TakenBack
-pub mod AtOnePoint
-pub mod OutOfRoom
-pub mod SharedRoom
-pub mod GivenAway
-pub mod StoppedExport
-pub mod AsBefore
-pub mod SameAsBefore

@@ -1,20 +1,17 @@
 -- What enabling a shadow set is refused for.
-use Rattle.std.specs.Prelude.{ℕ, ◌≡◌, ◌<◌, ◌≤◌, Bool, true, false, not, ◌||◌, ◌&&◌, nat_lt, is_some, if◌then◌else◌, Option, List, [], ◌∷◌, ◌++◌}
+use Rattle.std.specs.Prelude.{ℕ, ◌≡◌, ◌<◌, ◌≤◌, true, false, not, ◌||◌, ◌&&◌, nat_lt, is_some, Option, List, [], ◌∷◌, ◌++◌}
 use Rattle.std.specs.Bool.{then_some}
-use Rattle.avs_model.specs.Limits.{bitmap_blocks, compact_bitmap_blocks, most_group_sets, most_groups}
+use Rattle.avs_model.specs.Limits.{most_group_sets, most_groups}
+use Rattle.avs_model.specs.ShadowSets.{kind_of, bitmap_blocks_of}
 use Rattle.avs_model.specs.Rows.{has_no_role, may_lead}
 use Rattle.avs_model.specs.declared.command_facts.EnableFacts.{EnableFacts}
 use Rattle.avs_model.specs.declared.answer.Role.TheVariants.{Import}
 use Rattle.avs_model.specs.declared.answer.Refusal.{Refusal}
 use Rattle.avs_model.specs.declared.answer.Refusal.TheVariants.{Down, NoVolume, BusyVolume, Size, Limit, Unlike, Copying, NoContents}
 
--- a dependent set is compact where its shadow is smaller than its master
-abbrev pub makes_compact : EnableFacts → Bool
-makes_compact f = f.dependent && nat_lt f.shadow.blocks f.master.blocks
-
--- the blocks that its bitmap needs
+-- the blocks that the bitmap of the new set needs
 abbrev pub bitmap_need : EnableFacts → ℕ
-bitmap_need f = if makes_compact f then compact_bitmap_blocks f.master.blocks else bitmap_blocks f.master.blocks
+bitmap_need f = bitmap_blocks_of (kind_of f.dependent f.shadow.blocks f.master.blocks) f.master.blocks
 
 -- before the label of the shadow is looked at
 abbrev pub enable_early : EnableFacts → List (Option Refusal)

@@ -4,8 +4,7 @@ use Rattle.std.specs.Prelude.{ℕ, ◌-◌, ◌/◌, ◌==◌, ◌&&◌, ◌||�
 use Rattle.std.specs.List.{flat_map, range_with_len, sum_by}
 use Rattle.std.specs.Option.{option_map_or}
 use Rattle.avs_seg.specs.Segment.{seg_count, seg_len}
-use Rattle.avs_model.specs.Limits.{bitmap_blocks, compact_bitmap_blocks}
-use Rattle.avs_model.specs.ShadowSets.{ChunkList, ShadowState, is_independent, is_compact, is_offline}
+use Rattle.avs_model.specs.ShadowSets.{ChunkList, ShadowState, is_independent, is_offline, bitmap_blocks_of}
 use Rattle.avs_model.specs.GroupStates.{GroupState, of_set}
 use Rattle.avs_model.specs.GroupStages.{GroupStage, Mark, Copied, PutVolume, PutShadow, Commit, PutNote, TakesVolume, LeavesVolume, Attached, Detached, Change, ToShadow, ToMaster, Joined, sets_gone, change_of, source_of, after_stage}
 use Rattle.avs_model.specs.declared.shadow.Kind.{Kind}
@@ -56,10 +55,7 @@ mark_work chunk set =
     else if is_bare set chunk then copy_to_shadow set chunk
     else if set.lists.moved chunk then [] else on (BitmapDisk set.slot) 1
 
--- the blocks of a set's bitmap, which has a label and two areas, and those of one area
-abbrev pub bitmap_blocks_of : Kind → ℕ → ℕ
-bitmap_blocks_of kind blocks = if is_compact kind then compact_bitmap_blocks blocks else bitmap_blocks blocks
-
+-- the blocks of one of the two areas of a set's bitmap
 abbrev pub area_blocks : Kind → ℕ → ℕ
 area_blocks kind blocks = (bitmap_blocks_of kind blocks - 1) / 2
 

@@ -1,5 +1,5 @@
 -- Events on one host: the stages of each that nothing refuses, and its answer.
-use Rattle.std.specs.Prelude.{◌≡◌, ℕ, ◌-◌, ◌&&◌, nat_lt, Bool, true, false, not, is_some, is_none, if◌then◌else◌, Option, None, Some, List, [], ◌∷◌, ◌++◌, length, map, take, drop, replicate}
+use Rattle.std.specs.Prelude.{◌≡◌, ℕ, ◌-◌, ◌&&◌, Bool, true, false, is_some, is_none, if◌then◌else◌, Option, None, Some, List, [], ◌∷◌, ◌++◌, length, map, take, drop, replicate}
 use Rattle.std.specs.List.{filter_map, sum_by}
 use Rattle.std.specs.Option.{option_map, option_map_or, option_and_then}
 use Rattle.avs_seg.specs.Image.{Image, blank, range}
@@ -7,17 +7,15 @@ use Rattle.avs_seg.specs.Segment.{touch}
 use Rattle.avs_model.specs.Filling.{fill}
 use Rattle.avs_model.specs.Limits.{import_blocks}
 use Rattle.avs_model.specs.Terms.{Terms, Chosen, chosen_blocks}
-use Rattle.avs_model.specs.ShadowSets.{chunks_among, all_chunks, chunks_in, ShadowState, Standing, Online, Offline, Exported, to_copy, next_to_copy}
-use Rattle.avs_model.specs.GroupStages.{GroupStage, Copied, Change, volume_write_stages, shadow_write_stages, copy_stages, update_changes}
+use Rattle.avs_model.specs.ShadowSets.{chunks_among, all_chunks, chunks_in, ShadowState, Standing, Online, Offline, Exported, kind_of, bitmap_blocks_of, to_copy, next_to_copy}
+use Rattle.avs_model.specs.GroupStages.{Copied, Change, volume_write_stages, shadow_write_stages, copy_stages, update_changes}
 use Rattle.avs_model.specs.GroupStages as change
-use Rattle.avs_model.specs.GroupWork.{VolumeDisk, ShadowDisk, bitmap_blocks_of}
+use Rattle.avs_model.specs.GroupWork.{VolumeDisk, ShadowDisk}
 use Rattle.avs_model.specs.Room.{over_slots, used_in}
-use Rattle.avs_model.specs.Hosts.{Name, ShadowGroup, SetNames, SetPlace, HostSpot, OfVolume, OfNumber, Enabling, HostStage, Make, Put, Within, Spend, Format, Enables, Committed, MakesOverflow, Attaches, Detaches, Draw, Imports, EndsImport, MarksImport, ArmTear, GoDown, HostState, blocks_of_volume, marks_of, own_image, group_at, group_of, number_in, name_at, set_of, state_at, set_state, free_number, with_number, import_of, is_imported}
+use Rattle.avs_model.specs.Hosts.{Name, ShadowGroup, SetNames, SetPlace, HostSpot, OfVolume, OfNumber, Enabling, HostStage, Make, Put, Within, Spend, Format, Enables, Committed, MakesOverflow, Attaches, Detaches, Draw, Labels, Imports, EndsImport, MarksImport, ArmTear, GoDown, HostState, blocks_of_volume, marks_of, own_image, group_at, group_of, number_in, name_at, set_of, state_at, set_state, free_number, with_number, import_of, is_imported}
 use Rattle.avs_model.specs.HostPlaces.{Where, Own, InGroup, where_is, image_of}
 use Rattle.avs_model.specs.HostStages.{segments_of}
 use Rattle.avs_model.specs.HostFacts.{joined_group, imported_stamp}
-use Rattle.avs_model.specs.declared.shadow.Kind.{Kind}
-use Rattle.avs_model.specs.declared.shadow.Kind.TheVariants.{Ind, Dep, Compact}
 use Rattle.avs_model.specs.declared.event.ArmTarget.{ArmTarget}
 use Rattle.avs_model.specs.declared.event.ArmTarget.TheVariants as target
 use Rattle.avs_model.specs.declared.product.Elsewhere.{Elsewhere}
@@ -55,10 +53,6 @@ write_stages host name at blocks (InGroup place (ShadowDisk slot)) = map (λ sta
 write_stages host name at blocks (InGroup place spot) = []
 
 -- ---- commands
-
--- what a new set is, by the blocks of its shadow and of its master
-abbrev pub kind_of : Bool → ℕ → ℕ → Kind
-kind_of dependent shadow master = if not dependent then Ind else if nat_lt shadow master then Compact else Dep
 
 -- the blocks of a shadow volume behind its master's number: any, where its contents were gone
 abbrev pub behind_of : Chosen → HostState → Name → ℕ → Image
@@ -117,10 +111,11 @@ updating_stages host way whole target =
     option_map_or (λ place. Committed place (update_changes (group_at host place).state way whole (slots_named host (sets_of_target host target))) None ∷ [])
     (place_of_target host target) []
 
--- the bitmap of an import is formatted, unless the volume was imported before since it was given away
+-- the bitmap of an import is formatted and labelled, unless the volume was imported before since it was given away
 abbrev pub importing_stages : HostState → Name → Name → List HostStage
 importing_stages host volume bitmap =
-    (if is_some (imported_stamp (marks_of host volume).away) then [] else Spend bitmap (import_blocks (blocks_of_volume host volume)) ∷ [])
+    (if is_some (imported_stamp (marks_of host volume).away) then []
+    else Spend bitmap (import_blocks (blocks_of_volume host volume)) ∷ Labels volume bitmap ∷ [])
     ++ Imports volume bitmap ∷ []
 
 -- what comes back with a shadow volume: its blocks, and the chunks of the set that were written meanwhile

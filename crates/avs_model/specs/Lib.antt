@@ -4,6 +4,8 @@ pub mod Names
 pub mod Words
 pub mod Script
 pub mod Fits
+pub mod EqualBlocks
+pub mod HeldRuns
 pub mod Printed
 pub mod Rows
 pub mod RangeRows

@@ -2,10 +2,10 @@
 use Rattle.std.specs.Prelude.{ℕ, ◌+◌, ◌/◌, ◌%◌, nat_lt, List, [], ◌∷◌, ◌++◌, map, if◌then◌else◌}
 use Rattle.std.specs.List.{flat_map, join_with_byte}
 use Rattle.std.specs.Fmt.{decimal}
-use Rattle.std.specs.Str.{bytes_eq}
 use lib.Chars.{codes}
-use Rattle.avs_seg.specs.Image.{Block, Image}
+use Rattle.avs_seg.specs.Image.{Image}
 use Rattle.avs_model.specs.Filling.{shortest_pattern}
+use Rattle.avs_model.specs.EqualBlocks.{EqualRun, runs_of}
 use Rattle.avs_model.specs.declared.event.Host.{Host}
 use Rattle.avs_model.specs.declared.event.Host.TheVariants.{P, S}
 use Rattle.avs_model.specs.declared.answer.Refusal.{Refusal}
@@ -29,22 +29,6 @@ hex_digit n = if nat_lt n 10 then 48 + n else 87 + n
 -- the two digits of each byte
 abbrev pub hex_text : List ℕ → List ℕ
 hex_text bytes = flat_map (λ b. hex_digit (b / 16) ∷ hex_digit (b % 16) ∷ []) bytes
-
--- equal blocks, one after another
-pub record EqualRun : Type 0 where
-  pub count : ℕ
-  pub block : Block
-
--- a block in front of runs: one more of the first run, where it is equal to that run's block
-abbrev pub onto_run : Block → List EqualRun → List EqualRun
-onto_run block [] = record { count = 1; block = block } ∷ []
-onto_run block (run ∷ runs) =
-    if bytes_eq block run.block then record { count = run.count + 1; block = run.block } ∷ runs else record { count = 1; block = block } ∷ run ∷ runs
-
--- the runs of equal blocks, each as long as possible
-abbrev pub runs_of : Image → List EqualRun
-runs_of [] = []
-runs_of (block ∷ blocks) = onto_run block (runs_of blocks)
 
 -- `N*HEX`
 abbrev pub run_text : EqualRun → List ℕ

@@ -4,6 +4,7 @@ use Rattle.std.specs.Prelude.{ℕ, ◌/◌, Bool, true, false, not, ◌&&◌, �
 use Rattle.std.specs.List.{list_any, range_with_len}
 use Rattle.avs_seg.specs.Image.{Image}
 use Rattle.avs_seg.specs.Segment.{seg_count}
+use Rattle.avs_model.specs.Limits.{bitmap_blocks, compact_bitmap_blocks}
 use Rattle.avs_model.specs.declared.shadow.Kind.{Kind}
 use Rattle.avs_model.specs.declared.shadow.Kind.TheVariants.{Ind, Dep, Compact}
 
@@ -117,6 +118,14 @@ abbrev pub is_compact : Kind → Bool
 is_compact Ind = false
 is_compact Dep = false
 is_compact Compact = true
+
+-- what a new set is, by the blocks of its shadow and of its master: a dependent one is compact where its shadow is the smaller
+abbrev pub kind_of : Bool → ℕ → ℕ → Kind
+kind_of dependent shadow master = if not dependent then Ind else if nat_lt shadow master then Compact else Dep
+
+-- the blocks of a set's bitmap, which has a label and two areas, for a master of so many
+abbrev pub bitmap_blocks_of : Kind → ℕ → ℕ
+bitmap_blocks_of kind blocks = if is_compact kind then compact_bitmap_blocks blocks else bitmap_blocks blocks
 
 -- A point in time. Enabling a set makes its shadow the image that the master then has. No chunk has been written since; all contents of
 -- an independent set lie on the master alone.

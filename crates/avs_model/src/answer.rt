@@ -1,7 +1,7 @@
 // Answers to events, and what is printed of hosts and refusals.
 ghost use Rattle.std.specs.Prelude.{Some};
 
-use crate::blocks::Blocks;
+use crate::equal_runs::EqualRuns;
 use crate::event::Host;
 use crate::recovered::Recovered;
 use std::fmt;
@@ -124,7 +124,7 @@ pub enum Refusal {
 pub enum Answer {
     Done,
     /// The blocks that were read.
-    Shown(Blocks),
+    Shown(EqualRuns),
     /// The host was brought down.
     Down(Host),
     /// The host was brought up again.

@@ -5,6 +5,7 @@ mod answer;
 mod blocks;
 mod command_facts;
 mod entry;
+mod equal_runs;
 mod event;
 mod event_facts;
 mod facts;
@@ -22,6 +23,7 @@ pub use command_facts::{
     NamedSetFacts, OneSetFacts, OverflowFacts, SlotsFacts, UpdateFacts,
 };
 pub use entry::{Entry, EntryKind, Full, Limits};
+pub use equal_runs::{EqualRuns, shortest_pattern};
 pub use event::{ArmTarget, Event, Host, IiCommand, Name, Statement};
 pub use event_facts::{
     AccessFacts, ArmFacts, AttachTapFacts, DropTapFacts, MakeFacts, MoveFacts, RangeFacts,

@@ -2,7 +2,7 @@
 ghost use Rattle.std.specs.Prelude.{◌≡◌, ◌++◌, ◌∷◌, [], OnOk, OnErr};
 
 use crate::answer::Refusal;
-use crate::blocks::Blocks;
+use crate::equal_runs::EqualRuns;
 use crate::event::{ArmTarget, Host, Name};
 use crate::pattern::Pattern;
 use crate::recovered::Recovered;
@@ -232,7 +232,7 @@ pub struct ShadowShown {
 pub enum Answer {
     Done,
     /// The blocks that were read.
-    Shown(Blocks),
+    Shown(EqualRuns),
     /// This chunk was copied.
     Copied(u32),
     /// Nothing is left to copy.

@@ -2,30 +2,36 @@
 ghost use Rattle.std.specs.Prelude.{◌≡◌, OnErr};
 ghost use Rattle.avs_seg.specs.Causes.{Rose};
 ghost use Rattle.avs_model.specs.Rows.{first_row};
-ghost use Rattle.avs_model.specs.EnableRows.{enable_early, enable_late, makes_compact, bitmap_need};
+ghost use Rattle.avs_model.specs.EnableRows.{enable_early, enable_late, bitmap_need};
+ghost use Rattle.avs_model.specs.ShadowSets.{kind_of};
 ghost use Rattle.avs_refusals.specs.Looks.{TriesBetween};
 
 use crate::exchange::Marked;
 use crate::limits::{BITMAP_CHUNKS, COMPACT_CHUNKS, MOST_GROUP_SETS, MOST_GROUPS};
 use crate::roles::{has_no_role, may_lead};
 use crate::rows::first_row;
-use avs_model::{EnableFacts, Refusal, Role};
+use avs_model::{EnableFacts, Kind, Refusal, Role};
 use avs_seg::{Failed, seg_count};
 
-fn makes_compact(f: &EnableFacts) -> bool
-    ensures { result ≡ makes_compact f.now }
+fn kind_of(f: &EnableFacts) -> Kind
+    ensures { result ≡ kind_of f.now.dependent f.now.shadow.blocks f.now.master.blocks }
 {
-    f.dependent && f.shadow.blocks < f.master.blocks
+    if !f.dependent {
+        Kind::Ind
+    } else if f.shadow.blocks < f.master.blocks {
+        Kind::Compact
+    } else {
+        Kind::Dep
+    }
 }
 
 fn bitmap_need(f: &EnableFacts) -> u32
     ensures { result ≡ bitmap_need f.now }
 {
     let chunks = seg_count(f.master.blocks);
-    if makes_compact(f) {
-        1 + 2 * chunks.div_ceil(COMPACT_CHUNKS)
-    } else {
-        1 + 2 * chunks.div_ceil(BITMAP_CHUNKS)
+    match kind_of(f) {
+        Kind::Compact => 1 + 2 * chunks.div_ceil(COMPACT_CHUNKS),
+        Kind::Ind | Kind::Dep => 1 + 2 * chunks.div_ceil(BITMAP_CHUNKS),
     }
 }
 

@@ -1,4 +1,3 @@
-pub mod FillLemmas
 pub mod Numerals
 pub mod Patterns
 pub mod Places

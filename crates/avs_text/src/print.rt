@@ -6,7 +6,7 @@ ghost use Rattle.avs_model.specs.Printed.{answer_line, bad_line, blocks_text, se
 ghost use Rattle.avs_model.specs.declared.answer.Answer.TheVariants.{Shown, Up};
 
 use crate::equal_runs::push_runs;
-use avs_model::{Answer, Blocks, GroupLine, Recovered, Second, SetLine};
+use avs_model::{Answer, EqualRuns, GroupLine, Recovered, Second, SetLine};
 use avs_seg::NoMemory;
 use std::alloc::Global;
 use std::fmt::Write;
@@ -17,7 +17,7 @@ pub fn answer_line(alloc: Global, answer: &Answer) -> Result<String, NoMemory>
 {
     match answer {
         Answer::Done => Ok(String::from_str(alloc, "ok\n")?),
-        Answer::Shown(blocks) => shown_line(alloc, blocks),
+        Answer::Shown(runs) => shown_line(alloc, runs),
         Answer::Down(host) => Ok(format!(in alloc; "down {host}\n")?),
         Answer::Up(told) => recovered_lines(alloc, told),
         Answer::Refused(why) => Ok(format!(in alloc; "refused {why}\n")?),
@@ -26,11 +26,11 @@ pub fn answer_line(alloc: Global, answer: &Answer) -> Result<String, NoMemory>
 }
 
 // The line of blocks that were read.
-fn shown_line(alloc: Global, blocks: &Blocks) -> Result<String, NoMemory>
-    ensures { IfOk result (λ line. string_bytes line ≡ answer_line (Shown blocks.now)) }
+fn shown_line(alloc: Global, runs: &EqualRuns) -> Result<String, NoMemory>
+    ensures { IfOk result (λ line. string_bytes line ≡ answer_line (Shown runs.now)) }
 {
     let mut line = String::from_str(alloc, "data ")?;
-    push_runs(&mut line, blocks.as_slice())?;
+    push_runs(&mut line, runs)?;
     line.push('\n')?;
     Ok(line)
 }

@@ -11,7 +11,9 @@ pub mod NewGroups
 pub mod OneSet
 pub mod Outcomes
 pub mod RangeSteps
+pub mod Pieces
 pub mod Ranging
+pub mod Reached
 pub mod Reading
 pub mod Ready
 pub mod Recovering

@@ -29,11 +29,12 @@ use Rattle.avs_world.specs.declared.group.ShadowSet.{ShadowSet}
 use Rattle.avs_world.specs.declared.ranges.Target.{Target}
 use Rattle.avs_world.specs.Views.{GroupView, NoGroup, FreeDisk, InMemory, OnDisks, StoreView}
 use Rattle.avs_world.specs.Ranges.{role_in, role_by, disk_here, is_gone, group_size_of, group_size, reach, IsReached}
-use Rattle.avs_world.specs.Causes.{AtPlace, InGroup, group_disks, faults_of, DiskRose}
+use Rattle.avs_world.specs.Causes.{AtPlace, InGroup, group_disks, faults_of, DiskRose, DisksLast}
 use Rattle.avs_world.specs.Places.{HasRange, ReadsPlace, places_with, with_disk}
 use Rattle.avs_world.specs.Holds.{Shown, plain, gone, shown, group_with, is_enabled, IsSetOf, AreGroups, HoldsSet, IsOpen, HoldsBy, Holds, IsPhase, disks_made}
 use Rattle.avs_world.specs.Calls.{IsOf, ReadsMaster, ReadsShadow, ReadsAt}
 use Rattle.avs_world.proofs.Holding.{Found, found_plain, plain_shown, volume_shown, slice_get-set, shown_same, holds_same_shown, open_groups, use_in_set, use_alone, use_as}
+use Rattle.avs_world.proofs.Reached.{plain_lasts, plain_reached, group_lasts, group_reached}
 use Rattle.avs_world.proofs.Tears.{four_list}
 use Rattle.avs_world.proofs.Staying.{KeepsGroup, set_with, shown_unarmed, still_live, still_enabled, four_steady, count_at}
 
@@ -176,6 +177,7 @@ pub reads_plain : {T E : Type 0} (old : StoreView) (places : List (Place Seen)) 
 reads_plain old places target at len out result role reached reads =
     let k = target.place in
     let same : map shown places ≡ map shown old.places = ap (map shown) reads.is ∙ places_show old.places k at out result reads.disk reads.disk_new reads.here reads.reads in
+    let size = ap (λ (d : Seen). d.size) reads.reads.rest in
     record {
       names = refl;
       holds = λ steady state holds. holds_same_shown steady old state places same holds;
@@ -186,6 +188,10 @@ reads_plain old places target at len out result role reached reads =
       sure = λ steady state holds. unsteady result steady (λ is. reads.reads.sure (plain_steady steady old state target at len reads.disk role reached holds reads.here ∙ is));
       cause = rose_at old (record old { places = places }) k reads.disk reads.disk_new result reads.here
           (ap (λ (ps : List (Place Seen)). disk_here (slice_get ps k)) reads.is ∙ here_still old.places k reads.disk reads.disk_new reads.here) reads.reads.cause.failed;
+      disks = subst (λ (ps : List (Place Seen)). DisksLast old (record old { places = ps })) (sym reads.is) (plain_lasts old k reads.disk reads.disk_new reads.here size reads.reads.cause.later);
+      reached = λ from more before.
+          subst (λ (ps : List (Place Seen)). IsReached (record old { places = ps }) target from more) (sym reads.is)
+          (plain_reached old k reads.disk reads.disk_new reads.here size reads.reads.cause.later target from more role refl before);
     }
 
 -- A group.
@@ -313,6 +319,8 @@ reads_master old group target at len out result role reached reads =
           (reads.reads.shows by.0.sound);
       sure = λ steady state holds. unsteady result steady (λ is. reads.reads.steady (all_steady steady old reads.set reads.held state reads.was holds is));
       cause = on_err_weaker result (rose_in old (record old { group = group }) (disks_of reads.held) (disks_of reads.held_new) (ap group_disks reads.was) (ap group_disks reads.now)) reads.reads.failed;
+      disks = group_lasts reads.set reads.held reads.held_new old group reads.was reads.now reads.reads.later;
+      reached = group_reached reads.set reads.held reads.held_new reads.reads.shape reads.reads.block old group reads.was reads.now target;
     }
 
 -- the set of a shadow whose range is reached is there
@@ -343,6 +351,8 @@ reads_shadow_ok old group target at len out x y role reached reads =
           ∙ ap (λ (image : Image). range image at (length out / 512)) (sym (shadow_image steady old reads.set reads.held state reads.was holds target name at len reached role sought));
       sure = λ steady state holds. tt;
       cause = tt;
+      disks = group_lasts reads.set reads.held reads.held_new old group reads.was reads.now reads.reads.later;
+      reached = group_reached reads.set reads.held reads.held_new reads.reads.shape reads.reads.block old group reads.was reads.now target;
     }
 
 pub reads_shadow_err : {T T' E : Type 0} (old : StoreView) (group : GroupView) (target : Target) (at len : ℕ) (out : List ℕ) (why : Refusal) (e : E) → target.role ≡ Shadow → IsReached old target at len
@@ -358,4 +368,6 @@ reads_shadow_err {T} {T'} {E} old group target at len out why e role reached rea
       shows = λ steady state name holds sought. tt;
       sure = λ steady state holds. unsteady {T = T'} (Err e) steady (λ is. absurd (reads.reads.steady (all_steady steady old reads.set reads.held state reads.was holds is) fault));
       cause = rose_in old (record old { group = group }) (disks_of reads.held) (disks_of reads.held_new) (ap group_disks reads.was) (ap group_disks reads.now) (reads.reads.fault fault);
+      disks = group_lasts reads.set reads.held reads.held_new old group reads.was reads.now reads.reads.later;
+      reached = group_reached reads.set reads.held reads.held_new reads.reads.shape reads.reads.block old group reads.was reads.now target;
     }

@@ -1,5 +1,5 @@
 -- What reads and writes of ranges make of a store and of a group in memory.
-use Rattle.std.specs.Prelude.{◌≡◌, ◌⊎◌, ℕ, ◌/◌, Bool, true, false, IsTrue, ⊤, Some, List, length, position, Result, OnOk, OnErr}
+use Rattle.std.specs.Prelude.{◌≡◌, ◌⊎◌, ℕ, ◌*◌, ◌/◌, Bool, true, false, IsTrue, ⊤, Some, List, length, position, Result, OnOk, OnErr}
 use Rattle.std.specs.Str.{bytes_eq}
 use Rattle.avs_seg.specs.Image.{Image, blocks_of, range}
 use Rattle.avs_model.specs.State.{State, DiskPlace, image_of, use_of, is_armed, with_armed}
@@ -15,7 +15,8 @@ use Rattle.avs_world.specs.declared.group.ShadowSet.{ShadowSet}
 use Rattle.avs_world.specs.declared.ranges.Target.{Target}
 use Rattle.avs_world.specs.Views.{GroupView, NoGroup, FreeDisk, InMemory, OnDisks, StoreView, closed, SameApart}
 use Rattle.avs_world.specs.Holds.{Holds, IsPhase, is_enabled}
-use Rattle.avs_world.specs.Causes.{DiskRose}
+use Rattle.avs_world.specs.Causes.{DiskRose, DisksLast}
+use Rattle.avs_world.specs.Ranges.{IsReached}
 
 -- a group is in memory, and its master has the range; its shadow has it
 pub record IsMasterRange (group : GroupView) (at len : ℕ) : Type 0 where
@@ -75,6 +76,15 @@ pub record ReadsAt {T E : Type 0} (old : StoreView) (target : Target) (at : ℕ)
   pub shows : (steady : Bool) (state : State) (name : List ℕ) → Holds steady old state → IsOf old target name → OnOk result (blocks_of out ≡ range (image_of state.p name) at (length out / 512))
   pub sure : (steady : Bool) (state : State) → Holds steady old state → OnErr result (steady ≡ false)
   pub cause : OnErr result (DiskRose old new)
+  pub disks : DisksLast old new
+  pub reached : (from len : ℕ) → IsReached old target from len → IsReached new target from len
+
+-- a range of a volume is read in pieces, as these blocks: what one read of the whole range makes
+pub record ReadsRuns {T E : Type 0} (old : StoreView) (target : Target) (at len : ℕ) (blocks : Image) (result : Result T E) (new : StoreView) : Type 0 where
+  pub out : List ℕ
+  pub reads : ReadsAt old target at out result new
+  pub long : OnOk result (length out ≡ 512 * len)
+  pub are : OnOk result (blocks ≡ blocks_of out)
 
 -- a tear that a write to a volume of host p may meet is met, and is armed no more; over disks that are not steady a write may fail without one
 abbrev pub WriteTear : Bool → State → List ℕ → State → Type 0

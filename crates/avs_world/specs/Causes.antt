@@ -1,5 +1,5 @@
 -- The disks of a world by name: which of them failed, and which lets a tear be armed.
-use Rattle.std.specs.Prelude.{◌≡◌, ℕ, ◌==◌, ◌||◌, Bool, true, not, is_some, IsTrue, ⊤, Option, Some, List, [], ◌∷◌, slice_get, position}
+use Rattle.std.specs.Prelude.{◌≡◌, ℕ, ◌≤◌, ◌==◌, ◌||◌, Bool, true, not, is_some, IsTrue, ⊤, Option, Some, List, [], ◌∷◌, slice_get, position}
 use Rattle.std.specs.Option.{option_map_or, option_and_then}
 use Rattle.std.specs.Str.{bytes_eq}
 use Rattle.avs_seg.specs.Causes.{Rose}
@@ -46,6 +46,11 @@ was_there store (InGroup number) = number == 0 || is_some (disk_named store (InG
 -- the faults of some disk rose
 abbrev pub DiskRose : StoreView → StoreView → Type 0
 DiskRose old new = (name : DiskName) × (was_there old name ≡ true) × Rose (faults_of old name) (faults_of new name)
+
+-- the disks that were there are there, and their faults have not fallen
+pub record DisksLast (old new : StoreView) : Type 0 where
+  pub there : (name : DiskName) → was_there new name ≡ was_there old name
+  pub later : (name : DiskName) → faults_of old name ≤ faults_of new name
 
 -- a fault is answered only where the faults of a disk rose
 abbrev pub FaultHasCause : StoreView → StoreView → Answer → Type 0

@@ -1,5 +1,5 @@
 // Reads and writes of ranges of blocks.
-ghost use Rattle.std.specs.Prelude.{◌≡◌, ◌*◌, ◌<◌, ◌≤◌, Bool, true, false, Err, IfErr, IfOk, IsTrue, None, OnErr, Some, length, replicate, vec_len};
+ghost use Rattle.std.specs.Prelude.{◌≡◌, ◌≢◌, ◌+◌, ◌*◌, ◌^◌, ◌<◌, ◌≤◌, Bool, true, false, [], Err, IfErr, IfOk, IsTrue, None, OnErr, Some, length, min, replicate, vec_len};
 ghost use Rattle.avs_seg.specs.Image.{blocks_of};
 ghost use Rattle.avs_model.specs.Filling.{fill};
 ghost use Rattle.avs_world.specs.Views.{group_view};
@@ -10,8 +10,8 @@ use crate::group::{Group, MASTER, Part};
 use crate::stopped::{Stopped, StoppedWrite};
 use crate::world::{World, WorldFault};
 use avs_dev::{Arm, Disk};
-use avs_model::{Answer, Blocks, Event, Host, Name, Pattern, Refusal, Role};
-use avs_seg::{BLOCK, Failed};
+use avs_model::{Answer, EqualRuns, Event, Host, Name, Pattern, Refusal, Role};
+use avs_seg::{BLOCK, Failed, NoMemory};
 use avs_text::fill;
 use std::alloc::Global;
 use std::mem;
@@ -19,6 +19,17 @@ use std::mem;
 pub(crate) const LONGEST_WRITE: u32 = 256;
 
 const LONGEST_READ: u32 = 4096;
+
+// So many blocks are read at a time. They stay in the processor's cache until they are compared.
+const PIECE: u32 = 64;
+
+// Why a range was not read.
+#[derive(Clone, Copy, Debug, PartialEq, Eq)]
+enum ReadStop {
+    // A disk failed.
+    Failed,
+    NoMemory,
+}
 
 // Where blocks are read and written: the place of a volume, and what it serves as.
 #[derive(Clone, Copy, Debug)]
@@ -34,7 +45,7 @@ impl<D: Arm> World<D> {
     ghost use Rattle.avs_world.specs.Holds.{Holds, IsPhase};
     ghost use Rattle.avs_world.specs.Ranges.{reach, IsReached};
     ghost use Rattle.avs_world.specs.Causes.{FaultHasCause};
-    ghost use Rattle.avs_world.specs.Calls.{IsOf, ReadsAt, WritesOpen, WritesAt};
+    ghost use Rattle.avs_world.specs.Calls.{IsOf, ReadsAt, ReadsRuns, WritesOpen, WritesAt};
     ghost use Rattle.avs_world.specs.World.{Stands, Steps};
 
     // How many blocks of a volume can be read and written.
@@ -64,6 +75,7 @@ impl<D: Arm> World<D> {
         ensures of { IfOk result (λ target. IsOf (view_of D.seen self.now) target name.now) }
         ensures some { IfOk result (λ _. 0 < len) }
         ensures most { IfOk result (λ _. len ≤ longest) }
+        ensures room { IfOk result (λ _. at + len < 2 ^ 32) }
     {
         let Some(place) = self.shelf.find(name) else {
             return Err(Refusal::NoVolume);
@@ -96,6 +108,7 @@ impl<D: Arm> World<D> {
         ensures of { IfOk result (λ target. IsOf (view_of D.seen self.now) target name.now) }
         ensures some { IfOk result (λ _. 0 < len) }
         ensures most { IfOk result (λ _. len ≤ longest) }
+        ensures room { IfOk result (λ _. at + len < 2 ^ 32) }
         ensures up { IfOk result (λ _. self.now.up ≡ true) }
     {
         if !self.up {
@@ -121,6 +134,40 @@ impl<D: Arm> World<D> {
             Part::Master => read_master(&mut self.group, at, out),
             Part::Bitmap => unreachable!(),
         }
+    }
+
+    // Reads blocks of a volume piece by piece, each into `piece`, and appends them to the runs.
+    fn read_runs(
+        &mut self,
+        target: Target,
+        at: u32,
+        len: u32,
+        piece: &mut [u8],
+        runs: &mut EqualRuns,
+    ) -> Result<(), ReadStop>
+        requires reached { IsReached (view_of D.seen self.old) target at (512 * len) }
+        requires room { at + len < 2 ^ 32 }
+        requires piece { length piece.old ≡ 512 * min len 64 }
+        requires none { runs.old ≡ [] }
+        ensures reads { result ≢ Err ReadStop.NoMemory → ReadsRuns (view_of D.seen self.old) target at len runs.new result (view_of D.seen self.new) }
+        ensures up { self.new.up ≡ self.old.up }
+        ensures stopped { self.new.stopped ≡ self.old.stopped }
+    {
+        let mut done = 0;
+        while done < len {
+            let more = PIECE.min(len - done);
+            let part = &mut piece[..more as usize * BLOCK];
+            match self.read_at(target, at + done, part) {
+                Ok(()) => {}
+                Err(Failed) => return Err(ReadStop::Failed),
+            }
+            match runs.push(part) {
+                Ok(()) => {}
+                Err(NoMemory) => return Err(ReadStop::NoMemory),
+            }
+            done += more;
+        }
+        Ok(())
     }
 
     // Writes blocks of a volume. Where that fails the group in memory may be out of step with its disks.
@@ -166,6 +213,7 @@ impl<D: Arm> World<D> {
         ensures stopped { self.new.stopped ≡ stopped }
     {
         self.spare = Vec::new(alloc);
+        self.shown = EqualRuns::new(alloc);
         self.group.close();
         self.stopped = stopped;
         self.up = false;
@@ -212,10 +260,19 @@ impl<D: Arm> World<D> {
             Ok(target) => target,
             Err(why) => return Ok(Answer::Refused(why)),
         };
-        let mut bytes = sized(mem::replace(&mut self.spare, Vec::new(alloc)), len)?;
-        match self.read_at(target, at, &mut bytes) {
-            Ok(()) => Ok(Answer::Shown(Blocks::new(bytes))),
-            Err(Failed) => Ok(self.stop(alloc, None)),
+        let mut piece = sized(
+            mem::replace(&mut self.spare, Vec::new(alloc)),
+            len.min(PIECE),
+        )?;
+        let mut runs = mem::replace(&mut self.shown, EqualRuns::new(alloc));
+        runs.clear();
+        match self.read_runs(target, at, len, &mut piece, &mut runs) {
+            Ok(()) => {
+                self.spare = piece;
+                Ok(Answer::Shown(runs))
+            }
+            Err(ReadStop::Failed) => Ok(self.stop(alloc, None)),
+            Err(ReadStop::NoMemory) => Err(WorldFault::NoMemory),
         }
     }
 }

@@ -10,7 +10,7 @@ use crate::group::{Group, Part, ShadowSet};
 use crate::place::Shelf;
 use crate::stopped::Stopped;
 use avs_dev::{Arm, Disk, Rack, RackFault, Tear};
-use avs_model::{Answer, ArmTarget, Event, Host, IiCommand, Name, Refusal, Word};
+use avs_model::{Answer, ArmTarget, EqualRuns, Event, Host, IiCommand, Name, Refusal, Word};
 use std::alloc::{AllocError, AllocFailed, Global};
 
 const LEAST_VOLUME: u32 = 64;
@@ -60,6 +60,8 @@ pub struct World<D: Disk> {
     pub(crate) stopped: Option<Stopped>,
     // The buffer of the last read or write, for the next.
     pub(crate) spare: Vec<u8>,
+    // The blocks of the last read, whose memory is for the next.
+    pub(crate) shown: EqualRuns,
 }
 
 impl<D: Arm> World<D> {
@@ -83,6 +85,7 @@ impl<D: Arm> World<D> {
             up: true,
             stopped: None,
             spare: Vec::new(alloc),
+            shown: EqualRuns::new(alloc),
         }
     }
 
@@ -228,6 +231,7 @@ impl<D: Arm> World<D> {
             return Answer::Refused(Refusal::Down(Host::P));
         }
         self.spare = Vec::new(alloc);
+        self.shown = EqualRuns::new(alloc);
         self.group.close();
         self.up = false;
         Answer::Down(Host::P)
@@ -240,8 +244,8 @@ impl<D: Arm> World<D> {
         ensures up { self.new.up ≡ self.old.up }
         ensures stopped { self.new.stopped ≡ self.old.stopped }
     {
-        if let Answer::Shown(blocks) = answer {
-            self.spare = blocks.into_bytes();
+        if let Answer::Shown(runs) = answer {
+            self.shown = runs;
         }
     }
 

@@ -1,31 +1,23 @@
-use Rattle.std.proofs.Common.{ℕ, ◌*◌, List, ◌++◌, sym, ◌∙◌, ap, arith}
+use Rattle.std.proofs.Common.{◌<◌, ◌++◌, ℕ, List, length, ◌∙◌, ap, arith}
 use Rattle.std.specs.String.{string_bytes}
-use Rattle.std.proofs.lemmas.Bool.{eqb-true, eqb-false}
-use Rattle.std.proofs.lemmas.List.{length-take-le, take_rest}
 use Rattle.std.proofs.lemmas.Str.{encode_ascii}
-use Rattle.avs_text.proofs.RunLemmas.{whole_rest, text-all, text-last, text-more}
+use Rattle.avs_model.specs.EqualBlocks.{runs_of}
+use Rattle.avs_text.proofs.RunLemmas.{text_first, text_more, text_all}
 use Rattle.avs_text.proofs.equal_runs.push_runs.Goals as goal
 
-pub slice_bounds-push_run-end : goal.slice_bounds-push_run-end
-slice_bounds-push_run-end c = sym (length-take-le 512 c.loop-rest.rest.now (omega arith))
+pub loop-index-init : goal.loop-index-init
+loop-index-init c =
+    let some : 0 < length (runs_of c.args.runs.now) = omega (arith, c.len-count.ensures, c.if-count-eq0.false) in
+    (omega arith, text_first (string_bytes c.args.text.now) (string_bytes c.push_run.new.text) c.args.runs.now some c.in_ok-push_run.ensures)
 
-pub push_run-requires : goal.push_run-requires
-push_run-requires c = length-take-le 512 c.loop-rest.rest.now (omega arith)
-
-pub loop-rest-preserved-in-Continue-branch-2 : goal.loop-rest-preserved-in-Continue-branch-2
-loop-rest-preserved-in-Continue-branch-2 c =
-    let rest = take_rest c.loop-rest.rest.now (512 * c.first_run-count.result) in
-    let whole = whole_rest c.loop-rest.rest.now _ c.first_run-count.result rest c.loop-rest.invariant.0 in
-    let some = eqb-false _ 0 (sym c.is_empty-in-loop-rest.ensures ∙ c.if-not-is_empty.true) in
-    (whole, text-more c.loop-rest.rest.now _ _ _ _ _ c.first_run-count.result _ rest c.first_run-count.ensures.run whole (omega arith) c.loop-rest.invariant.1 c.in_ok-push_run.ensures (c.in_ok-push.ensures.bytes ∙ ap (λ (l : List ℕ). string_bytes c.push_run.new.text ++ l) (encode_ascii 32 (omega arith))))
-
-pub loop-rest-preserved : goal.loop-rest-preserved
-loop-rest-preserved c =
-    let rest = take_rest c.loop-rest.rest.now (512 * c.first_run-count.result) in
-    let none = eqb-true _ 0 (sym c.is_empty-in-loop-rest.ensures ∙ c.if-not-is_empty.false) in (
-      whole_rest c.loop-rest.rest.now _ c.first_run-count.result rest c.loop-rest.invariant.0,
-      text-last c.loop-rest.rest.now _ _ _ _ c.first_run-count.result _ rest c.first_run-count.ensures.run none c.loop-rest.invariant.1 c.in_ok-push_run.ensures,
+pub loop-index-preserved : goal.loop-index-preserved
+loop-index-preserved c =
+    let text = string_bytes c.loop-index.text in
+    let within : c.loop-index.index < length (runs_of c.args.runs.now) = omega (arith, c.len-count.ensures, c.loop-index-test.true) in (
+      omega arith,
+      text_more (string_bytes c.args.text.now) text (string_bytes c.push.new.self) (string_bytes c.push_run-in-loop-index.new.text) c.args.runs.now c.loop-index.index c.loop-index.invariant.0 within c.loop-index.invariant.1
+          (c.in_ok-push.ensures.bytes ∙ ap (λ (l : List ℕ). text ++ l) (encode_ascii 32 (omega arith))) c.in_ok-push_run-2.ensures,
     )
 
 pub returns : goal.returns
-returns c = text-all _ c.loop-rest.rest.now _ (eqb-true _ 0 (sym c.is_empty.ensures ∙ c.loop-rest-test.false)) c.loop-rest.invariant.1
+returns c = text_all (string_bytes c.args.text.now) (string_bytes c.loop-index.text) c.args.runs.now c.loop-index.index (omega (arith, c.len-count.ensures, c.loop-index-test.false)) c.loop-index.invariant.1

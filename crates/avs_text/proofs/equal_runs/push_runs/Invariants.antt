@@ -1,13 +1,7 @@
-use Rattle.std.proofs.Common.{◌≡◌, ◌*◌, ◌/◌, ◌++◌, length}
+use Rattle.std.proofs.Common.{◌≡◌, ◌<◌, ◌++◌}
 use Rattle.std.specs.String.{string_bytes}
-use Rattle.avs_seg.specs.Image.{blocks_of}
-use Rattle.avs_model.specs.Printed.{runs_text}
+use Rattle.avs_text.proofs.RunLemmas.{first_runs}
 use Rattle.avs_text.proofs.equal_runs.push_runs.Given as goal
 
-abbrev pub invariant-loop-rest : goal.invariant-loop-rest
-invariant-loop-rest l =
-    (512 * (length l.rest / 512) ≡ length l.rest)
-    × (string_bytes l.text ++ runs_text (blocks_of l.rest) ≡ string_bytes l.initial.text ++ runs_text (blocks_of l.bytes))
-
-abbrev pub decreases-loop-rest : goal.decreases-loop-rest
-decreases-loop-rest l = length l.rest
+abbrev pub invariant-loop-index : goal.invariant-loop-index
+invariant-loop-index l = (0 < l.index) × (string_bytes l.text ≡ string_bytes l.fn.text ++ first_runs l.runs l.index)

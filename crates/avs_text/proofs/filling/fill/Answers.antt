@@ -3,7 +3,7 @@ use Rattle.std.specs.Prelude.{IsTrue}
 use Rattle.std.proofs.lemmas.Bool.{eqb-true, eqb-false}
 use Rattle.std.proofs.lemmas.List.{take_at, length-append, length-drop}
 use Rattle.avs_model.specs.Filling.{is_pattern_length}
-use Rattle.avs_text.proofs.FillLemmas.{blocks_of-filled, IsFilled, IsFilled-replicate, IsFilled-nothing, IsFilled-repeats, pattern_bounds}
+use Rattle.avs_model.proofs.FillLemmas.{blocks_of-filled, IsFilled, IsFilled-replicate, IsFilled-nothing, IsFilled-repeats, pattern_bounds}
 use Rattle.avs_text.proofs.filling.fill.Goals as goal
 
 pub returns-in-len1 : goal.returns-in-len1

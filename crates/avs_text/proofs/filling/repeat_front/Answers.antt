@@ -1,5 +1,5 @@
 use Rattle.std.proofs.Common.{length, ◌∙◌, arith}
-use Rattle.avs_text.proofs.FillLemmas.{CopiesFront, take-CopiesFront, Repeats-more, whole_patterns}
+use Rattle.avs_model.proofs.FillLemmas.{CopiesFront, take-CopiesFront, Repeats-more, whole_patterns}
 use Rattle.avs_text.proofs.filling.repeat_front.Goals as goal
 
 pub loop-done-preserved : goal.loop-done-preserved

@@ -1,5 +1,5 @@
 use Rattle.std.proofs.Common.{◌≡◌, ℕ, ◌-◌, ◌%◌, ◌≤◌, List, length, take}
-use Rattle.avs_text.proofs.FillLemmas.{Repeats}
+use Rattle.avs_model.proofs.FillLemmas.{Repeats}
 use Rattle.avs_text.proofs.filling.repeat_front.Given as goal
 
 -- the first `len` bytes repeat so far, and whole

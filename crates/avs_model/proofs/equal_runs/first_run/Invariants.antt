@@ -1,6 +1,6 @@
 use Rattle.std.proofs.Common.{ℕ, ◌-◌, ◌*◌, ◌<◌, ◌≤◌, length, List}
-use Rattle.avs_text.proofs.RunLemmas.{EqualFirst}
-use Rattle.avs_text.proofs.equal_runs.first_run.Given as goal
+use Rattle.avs_model.proofs.HeldRuns.{EqualFirst}
+use Rattle.avs_model.proofs.equal_runs.first_run.Given as goal
 
 -- so many blocks are equal so far
 pub record RunSoFar (bytes : List ℕ) (count : ℕ) : Type 0 where

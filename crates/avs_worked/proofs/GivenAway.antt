@@ -16,7 +16,7 @@ use Rattle.avs_model.specs.declared.product.Way.TheVariants.{ToMaster}
 use Rattle.avs_model.specs.declared.product.IiCommand.TheVariants.{Disable, Export, Import, Join}
 use Rattle.avs_model.specs.declared.product.Event.{Event}
 use Rattle.avs_model.specs.declared.product.Event.TheVariants.{Volume, Write, Read, Ii, Copy, Move}
-use Rattle.avs_model.proofs.WorkedRuns.{done, refused, one_of, v, s, c, x, write, enable, update}
+use Rattle.avs_worked.proofs.WorkedRuns.{done, refused, one_of, v, s, c, x, write, enable, update}
 
 -- the state behind an event on one host, and behind a volume that moves
 abbrev pub on_host : State → Host → List Event → State

@@ -13,8 +13,8 @@ use Rattle.avs_model.specs.declared.answer.Word.TheVariants.{Away}
 use Rattle.avs_model.specs.declared.product.IiCommand.TheVariants.{Export}
 use Rattle.avs_model.specs.declared.product.Event.{Event}
 use Rattle.avs_model.specs.declared.product.Event.TheVariants.{Read, Ii}
-use Rattle.avs_model.proofs.WorkedRuns.{terms, chosen, refused, s}
-use Rattle.avs_model.proofs.GivenAway.{copied}
+use Rattle.avs_worked.proofs.WorkedRuns.{terms, chosen, refused, s}
+use Rattle.avs_worked.proofs.GivenAway.{copied}
 
 abbrev pub give : Event
 give = Ii P (Export s)

@@ -13,7 +13,7 @@ use Rattle.avs_model.specs.declared.event.Event.{Event as FirstEvent}
 use Rattle.avs_model.specs.declared.event.Event.TheVariants as first
 use Rattle.avs_model.specs.declared.event.IiCommand.TheVariants as first_command
 use Rattle.avs_model.specs.declared.product.Event.TheVariants.{Volume, Write, Read, Arm}
-use Rattle.avs_model.proofs.WorkedRuns.{done, refused, v, s, c, write, enable}
+use Rattle.avs_worked.proofs.WorkedRuns.{done, refused, v, s, c, write, enable}
 
 -- the first definitions' state behind events that nothing refuses and no fault stops
 abbrev pub done_before : before.State → List FirstEvent → before.State

@@ -16,7 +16,7 @@ use Rattle.avs_model.specs.declared.product.IiTarget.TheVariants.{Group}
 use Rattle.avs_model.specs.declared.product.IiCommand.TheVariants.{Update}
 use Rattle.avs_model.specs.declared.product.Event.{Event}
 use Rattle.avs_model.specs.declared.product.Event.TheVariants.{Volume, Ii, Arm}
-use Rattle.avs_model.proofs.WorkedRuns.{terms, chosen, done, refused, one_of, v, s, t, c, d, w, g, write, enable}
+use Rattle.avs_worked.proofs.WorkedRuns.{terms, chosen, done, refused, one_of, v, s, t, c, d, w, g, write, enable}
 
 -- two dependent sets of one group, on two volumes, and one write to each volume
 abbrev pub two_sets : HostState

@@ -9,7 +9,7 @@ use Rattle.avs_model.specs.declared.event.Host.TheVariants.{P}
 use Rattle.avs_model.specs.declared.answer.Refusal.TheVariants.{Copying}
 use Rattle.avs_model.specs.declared.product.Way.TheVariants.{ToShadow, ToMaster}
 use Rattle.avs_model.specs.declared.product.Event.TheVariants.{Volume, Copy}
-use Rattle.avs_model.proofs.WorkedRuns.{done, refused, one_of, v, s, t, c, d, g, write, enable, update}
+use Rattle.avs_worked.proofs.WorkedRuns.{done, refused, one_of, v, s, t, c, d, g, write, enable, update}
 
 abbrev pub two_shadows : HostState
 two_shadows = done (empty_host 1) (

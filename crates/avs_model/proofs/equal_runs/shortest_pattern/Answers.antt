@@ -2,9 +2,9 @@ use Rattle.std.proofs.Common.{sym, ◌∙◌, refl, arith}
 use Rattle.std.proofs.lemmas.Bool.{not-false, not_from_true, both_ways}
 use Rattle.std.proofs.lemmas.List.{take_rest}
 use Rattle.std.proofs.lemmas.Slice.Eq.{bytes_eq-Decides}
-use Rattle.avs_text.proofs.FillLemmas.{Repeats-shifted, Repeats-half, is_half, shortest-none, shortest_is}
-use Rattle.avs_text.proofs.equal_runs.shortest_pattern.Goals as goal
-use Rattle.avs_text.proofs.equal_runs.shortest_pattern.Goals.{then-loop-len-test+else-eq, else-loop-len-test}
+use Rattle.avs_model.proofs.FillLemmas.{Repeats-shifted, Repeats-half, is_half, shortest-none, shortest_is}
+use Rattle.avs_model.proofs.equal_runs.shortest_pattern.Goals as goal
+use Rattle.avs_model.proofs.equal_runs.shortest_pattern.Goals.{then-loop-len-test+else-eq, else-loop-len-test}
 
 pub returns-then-ne : goal.returns-then-ne
 returns-then-ne c =

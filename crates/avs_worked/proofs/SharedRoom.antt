@@ -7,7 +7,7 @@ use Rattle.avs_model.specs.Room.{used_in}
 use Rattle.avs_model.specs.GroupStages.{Commit, Disabled, Copied, in_group, volume_write_stages, update_stages}
 use Rattle.avs_model.specs.HostFacts.{back_in}
 use Rattle.avs_model.specs.declared.product.Way.TheVariants.{ToShadow, ToMaster}
-use Rattle.avs_model.proofs.OutOfRoom.{compact, written, standing_at, copied_next}
+use Rattle.avs_worked.proofs.OutOfRoom.{compact, written, standing_at, copied_next}
 
 -- ---- two sets with one slot of their own each, and an overflow volume of two slots
 

@@ -1,9 +1,8 @@
 use Rattle.std.proofs.Common.{◌≡◌, ℕ, ◌+◌, ◌-◌, ◌*◌, List, take, drop, sym, ◌∙◌, ap, arith}
-use Rattle.std.proofs.lemmas.Bool.{both_ways}
 use Rattle.std.proofs.lemmas.List.{length-take-le}
 use Rattle.std.proofs.lemmas.Slice.Eq.{bytes_eq-Decides}
-use Rattle.avs_text.proofs.RunLemmas.{EqualFirst-one, EqualFirst-more, runs_of-first}
-use Rattle.avs_text.proofs.equal_runs.first_run.Goals as goal
+use Rattle.avs_model.proofs.HeldRuns.{EqualFirst-one, EqualFirst-more, blocks_of-equal}
+use Rattle.avs_model.proofs.equal_runs.first_run.Goals as goal
 
 width : (bytes : List ℕ) (n : ℕ) → take (512 * n + 512 - 512 * n) (drop (512 * n) bytes) ≡ take 512 (drop (512 * n) bytes)
 width bytes n = let block : 512 * n + 512 - 512 * n ≡ 512 = omega arith in ap (λ (k : ℕ). take k (drop (512 * n) bytes)) block
@@ -21,12 +20,8 @@ loop-count-preserved c = record {
   equal = EqualFirst-more c.args.bytes.now c.loop-count.count c.loop-count.invariant.equal (sym (width c.args.bytes.now c.loop-count.count) ∙ (bytes_eq-Decides _ _).0 (sym c.eq.ensures ∙ c.if-eq.true));
 }
 
-pub returns-else-eq-clause-run : goal.returns-else-eq-clause-run
-returns-else-eq-clause-run c =
-    runs_of-first c.args.bytes.now c.loop-count.count c.loop-count.invariant.some c.loop-count.invariant.within c.loop-count.invariant.equal
-    (λ more same. both_ways _ c.if-eq.false (c.eq.ensures ∙ (bytes_eq-Decides _ _).1 (width c.args.bytes.now c.loop-count.count ∙ same)))
+pub returns-else-eq-clause-equal : goal.returns-else-eq-clause-equal
+returns-else-eq-clause-equal c = blocks_of-equal c.args.bytes.now c.loop-count.count c.loop-count.invariant.within c.loop-count.invariant.equal
 
-pub returns-after-loop-count-clause-run : goal.returns-after-loop-count-clause-run
-returns-after-loop-count-clause-run c =
-    runs_of-first c.args.bytes.now c.loop-count.count c.loop-count.invariant.some c.loop-count.invariant.within c.loop-count.invariant.equal
-    (λ more same. absurd (omega arith))
+pub returns-after-loop-count-clause-equal : goal.returns-after-loop-count-clause-equal
+returns-after-loop-count-clause-equal c = blocks_of-equal c.args.bytes.now c.loop-count.count c.loop-count.invariant.within c.loop-count.invariant.equal

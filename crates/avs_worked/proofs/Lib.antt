@@ -1,0 +1,9 @@
+pub mod WorkedRuns
+pub mod TakenBack
+pub mod AtOnePoint
+pub mod OutOfRoom
+pub mod SharedRoom
+pub mod GivenAway
+pub mod StoppedExport
+pub mod AsBefore
+pub mod SameAsBefore
