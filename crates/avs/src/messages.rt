@@ -21,6 +21,7 @@ fn text(why: BadLine) -> &'static str {
     match why {
         BadLine::TooLong => "too long, a line has at most 4096 bytes",
         BadLine::NoSuchStatement => "no such statement",
+        BadLine::NoHost => "no host, p or s, behind its first word",
         BadLine::WrongWords => "wrong words for this statement",
         BadLine::NotANumber => "not a number where one belongs",
         BadLine::NotBuilt => "not built yet",

@@ -3,13 +3,13 @@ ghost use Rattle.std.specs.Prelude.{◌≡◌, ◌≤◌, ◌↔◌, Some, None,
 ghost use Rattle.avs_seg.specs.Lines.{line_limit};
 ghost use Rattle.avs_model.specs.Words.{words_of};
 ghost use Rattle.avs_model.specs.Script.{event_of, statement};
-ghost use Rattle.avs_script.specs.Reason.{is_number, volume_number, write_numbers, read_numbers, arm_numbers, is_to_come, is_option_to_come, option_comes, by_numbers, why, why_words, words_reason, reason_of};
+ghost use Rattle.avs_script.specs.Reason.{is_number, volume_number, write_numbers, read_numbers, is_disk_to_come, why_arm, is_set_option, is_volume_option, is_option_to_come, why_ii, is_mirror_to_come, is_other_to_come, is_to_come, is_there, by_numbers, why_at_host, why, why_words, words_reason, reason_of};
 
 use crate::built::is_built;
 use crate::error::LineError;
 use crate::line::{LONGEST_LINE, read_event};
 use avs_seg::NoMemory;
-use avs_text::{WordReader, number};
+use avs_text::{WordReader, host_named, is_group_name, number};
 use std::alloc::Global;
 
 /// Why a line is no statement.
@@ -19,6 +19,8 @@ pub enum BadLine {
     TooLong,
     /// No statement begins with its first word.
     NoSuchStatement,
+    /// Its first word begins a statement, and no host is named behind it.
+    NoHost,
     /// Its first word begins a statement, and the words behind it are not those of this statement.
     WrongWords,
     /// It has as many words as its statement, and one where a number belongs is none.
@@ -33,27 +35,21 @@ fn is_number(word: &[u8]) -> bool
     number(word).is_some()
 }
 
-// Whether N of `volume H V N` is a number.
+// Whether N of `volume H V N` is a number, behind the host.
 fn volume_number(words: &mut WordReader<'_>) -> bool
     ensures { result ≡ volume_number words.old }
 {
-    let (Some(_), Some(_), Some(blocks), None) = (
-        words.next(),
-        words.next(),
-        words.next(),
-        words.next(),
-    ) else {
+    let (Some(_), Some(blocks), None) = (words.next(), words.next(), words.next()) else {
         return true;
     };
     is_number(blocks)
 }
 
-// Whether AT and LEN of `write H V AT LEN HEX` are numbers.
+// Whether AT and LEN of `write H V AT LEN HEX` are numbers, behind the host.
 fn write_numbers(words: &mut WordReader<'_>) -> bool
     ensures { result ≡ write_numbers words.old }
 {
-    let (Some(_), Some(_), Some(at), Some(len), Some(_), None) = (
-        words.next(),
+    let (Some(_), Some(at), Some(len), Some(_), None) = (
         words.next(),
         words.next(),
         words.next(),
@@ -65,12 +61,11 @@ fn write_numbers(words: &mut WordReader<'_>) -> bool
     is_number(at) && is_number(len)
 }
 
-// Whether AT and LEN of `read H V AT LEN` are numbers.
+// Whether AT and LEN of `read H V AT LEN` are numbers, behind the host.
 fn read_numbers(words: &mut WordReader<'_>) -> bool
     ensures { result ≡ read_numbers words.old }
 {
-    let (Some(_), Some(_), Some(at), Some(len), None) = (
-        words.next(),
+    let (Some(_), Some(at), Some(len), None) = (
         words.next(),
         words.next(),
         words.next(),
@@ -81,57 +76,131 @@ fn read_numbers(words: &mut WordReader<'_>) -> bool
     is_number(at) && is_number(len)
 }
 
-// Whether SKIP, FROM and COUNT of `arm H X SKIP FROM COUNT` are numbers.
-fn arm_numbers(words: &mut WordReader<'_>) -> bool
-    ensures { result ≡ arm_numbers words.old }
+// Whether a word names a disk for `arm` that is not there yet.
+fn is_disk_to_come(word: &[u8]) -> bool
+    ensures { result ≡ is_disk_to_come word.now }
 {
-    let (Some(_), Some(_), Some(skip), Some(first), Some(count), None) = (
-        words.next(),
+    word == b"config:".as_slice() || word.starts_with(b"land:") && is_group_name(&word[5..])
+}
+
+// Why the words of `arm H X SKIP FROM COUNT` behind the host are no event.
+fn why_arm(words: &mut WordReader<'_>) -> BadLine
+    ensures { result ≡ why_arm words.old }
+{
+    let (Some(disk), Some(skip), Some(first), Some(count), None) = (
         words.next(),
         words.next(),
         words.next(),
         words.next(),
         words.next(),
     ) else {
-        return true;
+        return BadLine::WrongWords;
     };
-    is_number(skip) && is_number(first) && is_number(count)
+    if !(is_number(skip) && is_number(first) && is_number(count)) {
+        return BadLine::NotANumber;
+    }
+    if is_disk_to_come(disk) {
+        BadLine::NotBuilt
+    } else {
+        BadLine::WrongWords
+    }
 }
 
-// Whether statements that are not there yet begin with a word.
-fn is_to_come(word: &[u8]) -> bool
-    ensures { result ≡ is_to_come word.now }
+// Whether a word is an option of `iiadm` before a command, or for a command on sets, that is not there yet.
+fn is_set_option(word: &[u8]) -> bool
+    ensures { result ≡ is_set_option word.now }
 {
-    word == b"sndradm".as_slice()
-        || word == b"dsstat".as_slice()
-        || word == b"link".as_slice()
-        || word == b"tap".as_slice()
-        || word == b"move".as_slice()
+    word == b"-n".as_slice()
+        || word == b"-g".as_slice()
+        || word == b"-C".as_slice()
+        || word == b"-d".as_slice()
+        || word == b"-u".as_slice()
+        || word == b"-c".as_slice()
+        || word == b"-a".as_slice()
+        || word == b"-w".as_slice()
+        || word == b"-l".as_slice()
+        || word == b"-i".as_slice()
 }
 
-// Whether a word is an option of `iiadm` that is not there yet.
+// Whether a word is an option of `iiadm` for a command on overflow volumes, exports or imports.
+fn is_volume_option(word: &[u8]) -> bool
+    ensures { result ≡ is_volume_option word.now }
+{
+    word == b"-O".as_slice()
+        || word == b"-A".as_slice()
+        || word == b"-D".as_slice()
+        || word == b"-Q".as_slice()
+        || word == b"-E".as_slice()
+        || word == b"-I".as_slice()
+        || word == b"-J".as_slice()
+}
+
 fn is_option_to_come(word: &[u8]) -> bool
     ensures { result ≡ is_option_to_come word.now }
 {
-    word == b"-d".as_slice()
-        || word == b"-u".as_slice()
-        || word == b"-c".as_slice()
-        || word == b"-w".as_slice()
-        || word == b"-a".as_slice()
-        || word == b"-l".as_slice()
-        || word == b"-i".as_slice()
-        || word == b"-g".as_slice()
-        || word == b"-n".as_slice()
+    is_set_option(word) || is_volume_option(word)
 }
 
-// Whether the word behind the host is such an option.
-fn option_comes(words: &mut WordReader<'_>) -> bool
-    ensures { result ≡ option_comes words.old }
+// Why the words of `iiadm H REST` behind the host are no event.
+fn why_ii(words: &mut WordReader<'_>) -> BadLine
+    ensures { result ≡ why_ii words.old }
 {
-    let (Some(_), Some(option)) = (words.next(), words.next()) else {
-        return false;
+    let Some(option) = words.next() else {
+        return BadLine::WrongWords;
     };
-    is_option_to_come(option)
+    if is_option_to_come(option) {
+        BadLine::NotBuilt
+    } else {
+        BadLine::WrongWords
+    }
+}
+
+// Whether statements of mirrors that are not there yet begin with a word.
+fn is_mirror_to_come(word: &[u8]) -> bool
+    ensures { result ≡ is_mirror_to_come word.now }
+{
+    word == b"sndradm".as_slice()
+        || word == b"sync".as_slice()
+        || word == b"take".as_slice()
+        || word == b"carry".as_slice()
+        || word == b"back".as_slice()
+        || word == b"lose".as_slice()
+        || word == b"settle".as_slice()
+        || word == b"bits".as_slice()
+        || word == b"fetch".as_slice()
+}
+
+// Whether other statements that are not there yet begin with a word.
+fn is_other_to_come(word: &[u8]) -> bool
+    ensures { result ≡ is_other_to_come word.now }
+{
+    word == b"copy".as_slice()
+        || word == b"dsstat".as_slice()
+        || word == b"file".as_slice()
+        || word == b"link".as_slice()
+        || word == b"move".as_slice()
+        || word == b"tap".as_slice()
+        || word == b"upgrade".as_slice()
+        || word == b"version".as_slice()
+}
+
+fn is_to_come(word: &[u8]) -> bool
+    ensures { result ≡ is_to_come word.now }
+{
+    is_mirror_to_come(word) || is_other_to_come(word)
+}
+
+// Whether statements that are there begin with a word. A host stands behind each.
+fn is_there(word: &[u8]) -> bool
+    ensures { result ≡ is_there word.now }
+{
+    word == b"volume".as_slice()
+        || word == b"write".as_slice()
+        || word == b"read".as_slice()
+        || word == b"iiadm".as_slice()
+        || word == b"arm".as_slice()
+        || word == b"crash".as_slice()
+        || word == b"recover".as_slice()
 }
 
 fn by_numbers(numbers: bool) -> BadLine
@@ -144,9 +213,9 @@ fn by_numbers(numbers: bool) -> BadLine
     }
 }
 
-// Why a first word and the words behind it are no event.
-fn why(word: &[u8], words: &mut WordReader<'_>) -> BadLine
-    ensures { result ≡ why word.now words.old }
+// Why a first word that is there, and the words behind the host, are no event.
+fn why_at_host(word: &[u8], words: &mut WordReader<'_>) -> BadLine
+    ensures { result ≡ why_at_host word.now words.old }
 {
     if word == b"volume".as_slice() {
         return by_numbers(volume_number(words));
@@ -158,23 +227,32 @@ fn why(word: &[u8], words: &mut WordReader<'_>) -> BadLine
         return by_numbers(read_numbers(words));
     }
     if word == b"arm".as_slice() {
-        return by_numbers(arm_numbers(words));
+        return why_arm(words);
     }
     if word == b"iiadm".as_slice() {
-        return if option_comes(words) {
+        return why_ii(words);
+    }
+    BadLine::WrongWords
+}
+
+// Why a first word and the words behind it are no event.
+fn why(word: &[u8], words: &mut WordReader<'_>) -> BadLine
+    ensures { result ≡ why word.now words.old }
+{
+    if !is_there(word) {
+        return if is_to_come(word) {
             BadLine::NotBuilt
         } else {
-            BadLine::WrongWords
+            BadLine::NoSuchStatement
         };
     }
-    if word == b"crash".as_slice() || word == b"recover".as_slice() {
-        return BadLine::WrongWords;
+    let Some(host) = words.next() else {
+        return BadLine::NoHost;
+    };
+    if host_named(host).is_none() {
+        return BadLine::NoHost;
     }
-    if is_to_come(word) {
-        BadLine::NotBuilt
-    } else {
-        BadLine::NoSuchStatement
-    }
+    why_at_host(word, words)
 }
 
 // Why the words of a line are no event.
