@@ -87,10 +87,10 @@ pub record AcceptsRemove (h : HalfState) : Type 0 where
 abbrev pub Accepts : PairState → PairEvent → Type 0
 Accepts p (WriteSource set at bytes) = AcceptsWrite p set at bytes
 Accepts p (WriteTarget set at bytes) = (is_receiving p.target ≡ false) × CanWrite p.target set at bytes
-Accepts p (WriteFull set at bytes) = (is_sending p.source ≡ true) × CanWrite p.source set at bytes
+Accepts p (WriteFull set at bytes) = (is_sending p.source ≡ true) × AcceptsWrite p set at bytes
 Accepts p (SyncCopy set seg) = (is_acting p.source ≡ true) × CanCopy p set seg
 Accepts p SyncMark = (is_acting p.source ≡ true) × CanMark p
-Accepts p SyncFull = is_acting p.source ≡ true
+Accepts p SyncFull = (is_acting p.source ≡ true) × (p.session.mark ≡ 0)
 Accepts p TakeNext = AcceptsTake p
 Accepts p (Carry m) = IsHeldFrom p m
 Accepts p (Back upto) = BringsBack p upto

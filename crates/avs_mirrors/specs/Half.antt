@@ -2,20 +2,12 @@
 use Rattle.std.specs.Prelude.{ℕ, ◌+◌, ◌==◌, ◌&&◌, ◌||◌, not, nat_lt, nat_le, max, if◌then◌else◌, Bool, true, false, List, [], ◌∷◌, filter, Option}
 use Rattle.avs_seg.specs.Image.{Image, put}
 use Rattle.avs_model.specs.declared.entry.Entry.{Entry}
+pub use Rattle.avs_model.specs.declared.half.HalfRole.{HalfRole}
+pub use Rattle.avs_model.specs.declared.half.HalfRole.TheVariants.{Lone, Sender, Receiver}
+pub use Rattle.avs_model.specs.declared.half.State.{State}
+pub use Rattle.avs_model.specs.declared.half.State.TheVariants.{Logging, Syncing, Receiving, Replicating, Queuing}
 use Rattle.avs_mirrors.specs.Entries.{Images, with_image, after_entry, is_mark, touches}
 use Rattle.avs_mirrors.specs.Due.{Segments, Keys, Due, nothing_due, noted, placed_due, copied_due, frees, freed_due, zeros, both_due, weighed_due, set_due}
-
-pub data SessionRole : Type 0 where
-  Lone : SessionRole
-  Sender : SessionRole
-  Receiver : SessionRole
-
-pub data SessionState : Type 0 where
-  Logging : SessionState
-  Syncing : SessionState
-  Receiving : SessionState
-  Replicating : SessionState
-  Queuing : SessionState
 
 -- a worker's message: its session, its place, the entry, and the place that it brings back
 pub record Message : Type 0 where
@@ -38,8 +30,8 @@ pub record HalfState : Type 0 where
   pub contents : Sets
   pub images : Images
   pub number : ℕ
-  pub role : SessionRole
-  pub state : SessionState
+  pub role : HalfRole
+  pub state : State
   pub last : ℕ
   pub known : ℕ
   pub taken : ℕ
@@ -56,17 +48,17 @@ with_set sets set there t = if t == set then there else sets t
 
 -- ---- where a half stands
 
-abbrev pub is_sender : SessionRole → Bool
+abbrev pub is_sender : HalfRole → Bool
 is_sender Lone = false
 is_sender Sender = true
 is_sender Receiver = false
 
-abbrev pub is_receiver : SessionRole → Bool
+abbrev pub is_receiver : HalfRole → Bool
 is_receiver Lone = false
 is_receiver Sender = false
 is_receiver Receiver = true
 
-abbrev pub is_session : SessionState → Bool
+abbrev pub is_session : State → Bool
 is_session Logging = false
 is_session Syncing = true
 is_session Receiving = true
@@ -74,14 +66,14 @@ is_session Replicating = true
 is_session Queuing = true
 
 -- the mark was applied, or is known
-abbrev pub is_marked : SessionState → Bool
+abbrev pub is_marked : State → Bool
 is_marked Logging = false
 is_marked Syncing = false
 is_marked Receiving = false
 is_marked Replicating = true
 is_marked Queuing = true
 
-abbrev pub is_acting_state : SessionState → Bool
+abbrev pub is_acting_state : State → Bool
 is_acting_state Logging = false
 is_acting_state Syncing = true
 is_acting_state Receiving = false

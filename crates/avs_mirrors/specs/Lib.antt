@@ -9,3 +9,9 @@ pub mod Accepts
 pub mod Stops
 pub mod Steps
 pub mod Reached
+pub mod MirrorHosts
+pub mod HalfStages
+pub mod MirrorStates
+pub mod PairOf
+pub mod MoveStages
+pub mod EventStages

@@ -94,16 +94,17 @@ pub record StopsRejoined (p : PairState) (ms : List Move) : Type 0 where
 abbrev pub StopsResume : PairState → List Move → Type 0
 StopsResume p ms = (ms ≡ []) ⊎ StopsRejoined p ms
 
--- ---- all events: one that writes on no disk is not stopped
+-- ---- all events: one that uses no disk is not stopped; a copy is read from its volume, and a taken entry from a queue on disk: where
+-- that fails, nothing was done
 
 abbrev pub Stops : Bool → PairState → PairEvent → List Move → Type 0
 Stops queued p (WriteSource set at bytes) ms = StopsWrite queued p (written set at bytes) ms
 Stops queued p (WriteTarget set at bytes) ms = StopsAway NoteTarget ChangeTarget p.target.images (written set at bytes) ms
 Stops queued p (WriteFull set at bytes) ms = StopsFull p (written set at bytes) ms
-Stops queued p (SyncCopy set seg) ms = (queued ≡ true) × (ms ≡ [])
+Stops queued p (SyncCopy set seg) ms = ms ≡ []
 Stops queued p SyncMark ms = (queued ≡ true) × (ms ≡ [])
 Stops queued p SyncFull ms = IsNoneOrAll ms (moves queued p SyncFull)
-Stops queued p TakeNext ms = ⊥
+Stops queued p TakeNext ms = (queued ≡ true) × (ms ≡ [])
 Stops queued p (Carry m) ms = IsFront ms (brought p m)
 Stops queued p (Back upto) ms = StopsBack p upto (learn p upto) ms
 Stops queued p (PlaceTake set at bytes) ms = StopsWrite queued p (written set at bytes) ms

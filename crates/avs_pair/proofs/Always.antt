@@ -6,6 +6,7 @@ use Rattle.avs_mirrors.specs.Moves.{Apply, ChangeSource, ChangeTarget, DrawSourc
 use Rattle.avs_mirrors.specs.Pair.{PairState, start}
 use Rattle.avs_mirrors.specs.Reached.{IsReached}
 use Rattle.avs_pair.proofs.Sound.{Sound}
+use Rattle.avs_pair.proofs.Dues.{none_in_nothing}
 use Rattle.avs_pair.proofs.Messages.{answered_none, faithful_none}
 use Rattle.avs_pair.proofs.Sources.{keeps_change_source, keeps_note_source, keeps_place_copy, keeps_place_mark, keeps_place_write, keeps_take}
 use Rattle.avs_pair.proofs.Knowing.{keeps_draw_source, keeps_forget, keeps_free, keeps_go_on, keeps_know, keeps_leave_source, keeps_queuing, keeps_turn, keeps_weigh}
@@ -66,10 +67,13 @@ starts_sound a b = record {
   none_known = λ _. refl;
   known = λ _ _. omega arith;
   covered = record { each = λ t i here none gone. false_true here };
+  source_away = λ _. none_in_nothing;
+  target_away = none_in_nothing;
   stands = λ s. false_true s;
   receives = λ r. false_true r;
   sends = λ s same. false_true s;
   kept_on = λ t k. false_true k;
+  kept_some = λ t k. false_true k;
   keeps = λ t k n. false_true k;
   messages = faithful_none _ _ _;
   answered = answered_none _ _ _;

@@ -6,8 +6,9 @@ use Rattle.std.proofs.lemmas.List.{length_push}
 use Rattle.std.proofs.lemmas.Option.{slice_get_within, same_Some}
 use Rattle.avs_model.specs.declared.entry.Entry.{Entry}
 use Rattle.avs_mirrors.specs.Allowed.{IsLast}
-use Rattle.avs_mirrors.specs.Due.{Due, both_due, copied_due, freed_due, has, noted, placed_due, placed_one, zeros}
+use Rattle.avs_mirrors.specs.Due.{Due, Segments, both_due, copied_due, freed_due, has, noted, nothing_due, placed_due, placed_one, set_due, zero_of, zeros}
 use Rattle.avs_mirrors.specs.Entries.{a_mark, touches}
+use Rattle.avs_pair.specs.Cover.{HasNoPlaces}
 use Rattle.avs_pair.proofs.Sound.{IsFreed, IsPending}
 use Rattle.avs_pair.proofs.Orders.{slice_get_end, slice_get_push}
 
@@ -38,6 +39,46 @@ copied_within due set seg place = record { each = λ t g none. grind arith }
 
 pub placed_touched : (due : Due) (copying : Bool) (e : Entry) (place t g : ℕ) → has (placed_due due copying e place) t g ≡ false → touches e t g ≡ false
 placed_touched due copying e place t g none = grind arith
+
+-- ---- maps without places
+
+pub none_in_nothing : HasNoPlaces nothing_due
+none_in_nothing = record { each = λ t g place is. absurd (cc) }
+
+pub none_in_zeros : (due : Due) → HasNoPlaces (zeros due)
+none_in_zeros due = record { each = λ t g place is. one (due t g) place is }
+  where
+    one : (o : Option ℕ) (place : ℕ) → zero_of o ≡ Some place → place ≡ 0
+    one None place is = absurd (cc)
+    one (Some k) place is = grind arith
+
+pub none_in_both : (a b : Due) → HasNoPlaces (both_due a b)
+none_in_both a b = record { each = λ t g place is. one (is_some (a t g)) (b t g) place is }
+  where
+    one : (c : Bool) (o : Option ℕ) (place : ℕ) → cond c (Some 0) (zero_of o) ≡ Some place → place ≡ 0
+    one true o place is = grind arith
+    one false None place is = absurd (cc)
+    one false (Some k) place is = grind arith
+
+pub none_in_noted : (due : Due) (keys : ℕ → ℕ → Bool) → HasNoPlaces due → HasNoPlaces (noted due keys)
+none_in_noted due keys n = record { each = λ t g place is. one (due t g) (keys t g) place (n.each t g) is }
+  where
+    one : (o : Option ℕ) (key : Bool) (place : ℕ) → ((k : ℕ) → o ≡ Some k → k ≡ 0) → cond (is_some o) o (cond key (Some 0) None) ≡ Some place → place ≡ 0
+    one (Some k) key place none is = none place is
+    one None true place none is = grind arith
+    one None false place none is = absurd (cc)
+
+pub none_in_set : (due : Due) (set : ℕ) (keys : Segments) → HasNoPlaces due → HasNoPlaces (set_due due set keys)
+none_in_set due set keys n = record { each = λ t g place is. one (nat_eq t set) (keys g) (due t g) place (n.each t g) is }
+  where
+    one : (own key : Bool) (o : Option ℕ) (place : ℕ) → ((k : ℕ) → o ≡ Some k → k ≡ 0) → cond own (cond key (Some 0) None) o ≡ Some place → place ≡ 0
+    one false key o place none is = none place is
+    one true true o place none is = grind arith
+    one true false o place none is = absurd (cc)
+
+pub none_in_left : (is_gone : Bool) (due : Due) → HasNoPlaces due → HasNoPlaces (cond is_gone nothing_due due)
+none_in_left true due n = none_in_nothing
+none_in_left false due n = n
 
 -- ---- entries behind a place
 

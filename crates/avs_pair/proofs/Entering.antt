@@ -6,14 +6,15 @@ use Rattle.avs_model.specs.declared.entry.Entry.{Entry}
 use Rattle.avs_mirrors.specs.Allowed.{CanEnter, CanRejoin}
 use Rattle.avs_mirrors.specs.Due.{Due, both_due, has, is_zero}
 use Rattle.avs_mirrors.specs.Entries.{Images, SameSize, after_entries, after_entry, between, block_in, is_mark, touches}
-use Rattle.avs_mirrors.specs.Half.{HalfState, Queuing, Receiver, Sender, SessionRole, SessionState, Sets, asked, begun, is_acting, is_marked, is_receiver, is_receiving, is_sender, is_sending, is_session, rejoined}
+use Rattle.avs_mirrors.specs.Half.{HalfState, Queuing, Receiver, Sender, HalfRole, State, Sets, asked, begun, is_acting, is_marked, is_receiver, is_receiving, is_sender, is_sending, is_session, rejoined}
 use Rattle.avs_mirrors.specs.Moves.{Enter, EnterReversed, Rejoin, after}
 use Rattle.avs_mirrors.specs.Pair.{PairState, Session, new_session, on_both}
+use Rattle.avs_pair.specs.Cover.{HasNoPlaces}
 use Rattle.avs_pair.specs.Session.{AreFitting, HasMark, IsFitting}
 use Rattle.avs_pair.proofs.Sound.{AreAnswered, IsBlockBehind, IsHere, IsOnce, IsPending, Keeps, Receives, SameOutside, SameOutsideBoth, Sends, Sound, Stands}
 use Rattle.avs_pair.proofs.Images.{after_entries-push, once_more, same_after, size_after, size_after_all, size_sym, size_then, untouched}
 use Rattle.avs_pair.proofs.Orders.{between_last, between_none}
-use Rattle.avs_pair.proofs.Dues.{IsWithin, both_within_left, both_within_right}
+use Rattle.avs_pair.proofs.Dues.{IsWithin, both_within_left, both_within_right, none_in_both, none_in_zeros}
 use Rattle.avs_pair.proofs.Shared.{both_from, both_swapped, eq_cases, outside_begun}
 use Rattle.avs_pair.proofs.Messages.{answered_when, faithful_begun, faithful_none}
 use Rattle.avs_pair.proofs.Sources.{absent, both_on, left_on, mark_once, right_on}
@@ -63,7 +64,7 @@ once_behind y s mark fits some reached sizes behind = record { each = λ j e is 
         low : (j : ℕ) → is_mark e.kind ≡ nat_eq (j + 1) s.mark → j + 1 ≡ y.applied → s.mark ≤ j
         low j at is = below_it j s.mark (sym at ∙ o.kind) (omega (arith, is, reached))
 
-queuing_sends : (role : SessionRole) (state : SessionState) → role ≡ Sender → state ≡ Queuing → ((is_sender role && is_session state) ≡ true) × (is_marked state ≡ true)
+queuing_sends : (role : HalfRole) (state : State) → role ≡ Sender → state ≡ Queuing → ((is_sender role && is_session state) ≡ true) × (is_marked state ≡ true)
 queuing_sends role state r q = (grind arith, grind arith)
 
 pub keeps_rejoin : (p : PairState) → Sound p → CanRejoin p → Sound (after p Rejoin)
@@ -112,13 +113,15 @@ keeps_rejoin p h can =
       size = λ some. size t there;
       behind = λ some le i. behind t i there;
       there = λ a. b.on t ∙ sym (here t) ∙ there;
+      contents = can.contents t there ∙ sym (both_reached s.mark y.applied m.0 reached);
     } in
     let kept_on : (t : ℕ) → y.here t ≡ true → y.here t ≡ true = λ t there. there in
+    let kept_some : (t : ℕ) → y.here t ≡ true → 0 < y.number = λ t there. omega (arith, b.some, can.same) in
     let held = faithful_none s y.number y.applied in
     let none_held : is_receiving z ≡ false → z.held ≡ [] = λ away. refl in
-    assumption (no_target, target_here, sizes, covered, receives, sends, kept_on, keeps, held, none_held, h)
+    assumption (no_target, target_here, sizes, covered, receives, sends, kept_on, kept_some, keeps, held, none_held, h)
   where
-    receiver_sends : (role : SessionRole) → role ≡ Receiver → (is_sender role && true) ≡ false
+    receiver_sends : (role : HalfRole) → role ≡ Receiver → (is_sender role && true) ≡ false
     receiver_sends role is = grind arith
 
     both_reached : (mark n : ℕ) → 0 < mark → mark ≤ n → (nat_lt 0 mark && nat_le mark n) ≡ true
@@ -155,6 +158,8 @@ keeps_begun p a b most h first second old_sizes old_both can =
     let known : 0 < x.number → x.number ≡ y.number → x.known ≤ y.applied = λ _ _. omega arith in
     let now : SameOutside on x.due y.images x.images = outside_begun on a.due b.due b.images a.images left right both in
     let covered : SameOutsideBoth on x.due y.due y.images x.images = both_from on x.due y.due y.images x.images now in
+    let source_away : is_sending x ≡ false → HasNoPlaces x.due = λ _. none_in_both a.due b.due in
+    let target_away : HasNoPlaces y.due = none_in_zeros b.due in
     let pending : IsPending on x.due s.order y.applied = record { each = λ j e t g here le is none. absurd (cc) } in
     let none_applied : y.number ≡ 0 → y.applied ≡ 0 = λ _. refl in
     let fits : (images : Images) → AreFitting s images = λ images. record { each = λ j e is. absurd (cc) } in
@@ -197,15 +202,17 @@ keeps_begun p a b most h first second old_sizes old_both can =
       size = λ some. absurd (omega (arith, some));
       behind = λ some reached i. absurd (omega (arith, some));
       there = λ _. can.same_sets t ∙ there;
+      contents = emptied (b.here t) (b.contents t) there;
     } in
     let messages = faithful_begun p.session s p.target.number p.target.applied 0 p.messages can.fresh h.messages in
     let kept_on : (t : ℕ) → b.here t ≡ true → b.here t ≡ true = λ t there. there in
+    let kept_some : (t : ℕ) → b.here t ≡ true → 0 < y.number = λ t there. omega (arith, can.above) in
     let held = faithful_none s a.number 0 in
     let none_held : is_receiving y ≡ false → y.held ≡ [] = λ _. refl in
     let told : AreAnswered x.number y.number (is_acting x) p.messages = answered_when x.number y.number (is_acting x) p.messages (λ _. refl) in
-    assumption (sizes, no_source, no_target, source_here, target_here, newest, mark, applied, none_applied, none_known, known, covered, stands, receives, sends, kept_on, keeps, messages, held, none_held, told)
+    assumption (sizes, no_source, no_target, source_here, target_here, newest, mark, applied, none_applied, none_known, known, covered, source_away, target_away, stands, receives, sends, kept_on, kept_some, keeps, messages, held, none_held, told)
   where
-    sender_receives : (role : SessionRole) → role ≡ Sender → (is_receiver role && true) ≡ false
+    sender_receives : (role : HalfRole) → role ≡ Sender → (is_receiver role && true) ≡ false
     sender_receives role is = grind arith
 
     emptied : (here filled : Bool) → here ≡ true → (not here && filled) ≡ false

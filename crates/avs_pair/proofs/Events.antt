@@ -15,7 +15,7 @@ use Rattle.avs_mirrors.specs.Allowed.{AllAllowed, AreAll, BringsBack, CanEnter, 
 use Rattle.avs_mirrors.specs.Due.{Due, Keys, Segments, frees, has, noted}
 use Rattle.avs_mirrors.specs.Entries.{Images, SameSize, block_in, is_mark, touches, with_image, written}
 use Rattle.avs_mirrors.specs.Events.{Restored, applies, apply_found, asks, asks_reversed, bits_of, brought, carried, dropped, has_place, is_next, keeps_queue, learn, logged_source, logged_target, moves_away, next_number, parts_with, recovered_source, restored, resumes, turn_where, write_away, write_full, write_source}
-use Rattle.avs_mirrors.specs.Half.{HalfState, Logging, Message, Queuing, Replicating, Sender, SessionRole, SessionState, Sets, is_acting, is_acting_state, is_marked, is_receiver, is_receiving, is_sender, is_sending, is_session, knows_mark, queued, with_bits, with_change, without_place}
+use Rattle.avs_mirrors.specs.Half.{HalfState, Logging, Message, Queuing, Replicating, Sender, HalfRole, State, Sets, is_acting, is_acting_state, is_marked, is_receiver, is_receiving, is_sender, is_sending, is_session, knows_mark, queued, with_bits, with_change, without_place}
 use Rattle.avs_mirrors.specs.Moves.{Apply, ChangeSource, ChangeTarget, Enter, EnterReversed, Forget, Free, Hold, JoinSource, JoinTarget, Know, LeaveSource, LeaveTarget, Move, MoveSource, MoveTarget, NoteSource, NoteTarget, PartSource, PartTarget, PlaceWrite, Queue, Rejoin, Reply, Take, Weigh, after, after_all}
 use Rattle.avs_mirrors.specs.Pair.{PairState, next_place}
 use Rattle.avs_mirrors.specs.Stops.{IsFront, IsNoneOrAll, StopsAway, StopsBack, StopsBegin, StopsDropped, StopsFull, StopsResume, StopsReversed, StopsWrite}
@@ -95,7 +95,7 @@ left_away b = grind arith
 pub write_full_allowed : (p : PairState) (set at : ℕ) (bytes : Image) → AllAllowed p (write_full p set at bytes)
 write_full_allowed p set at bytes = (tt, away_source (after p LeaveSource) set at bytes (left_away (is_sender p.source.role)))
 
-pub acting_sends : (role : SessionRole) (state : SessionState) → (is_sender role && is_acting_state state) ≡ true → (is_sender role && is_session state) ≡ true
+pub acting_sends : (role : HalfRole) (state : State) → (is_sender role && is_acting_state state) ≡ true → (is_sender role && is_session state) ≡ true
 acting_sends role state is = grind arith
 
 pub place_take_allowed : (p : PairState) (set at : ℕ) (bytes : Image) → Sound p → is_acting p.source ≡ true → AcceptsWrite p set at bytes → AllAllowed p (PlaceWrite set at bytes ∷ Take (next_place p.session) ∷ [])
@@ -170,7 +170,7 @@ stops_back p upto whole ms told can (inl part) = only p ms (Free upto part.part 
 stops_back p upto whole ms told can (inr f) = front_allowed p ms whole f can
 
 -- at a resumption
-queues : (role : SessionRole) (state : SessionState) → role ≡ Sender → state ≡ Queuing → ((is_sender role && is_session state) ≡ true) × (is_marked state ≡ true)
+queues : (role : HalfRole) (state : State) → role ≡ Sender → state ≡ Queuing → ((is_sender role && is_session state) ≡ true) × (is_marked state ≡ true)
 queues role state r q = (grind arith, grind arith)
 
 tells_back : (p : PairState) → CanRejoin p → TellsApplied (after p Rejoin) p.target.applied
@@ -289,7 +289,7 @@ found_among test (x ∷ ms) m is = by_test (test x) refl (λ same. found_among t
 next_is : (number place : ℕ) (m : Message) → is_next number place m ≡ true → (m.number ≡ number) × (m.place ≡ place)
 next_is number place m on = (grind (arith, nat_tests), grind (arith, nat_tests))
 
-still_receives : (role : SessionRole) (state : SessionState) (c : Bool) → (is_receiver role && is_session state) ≡ true → (is_receiver role && is_session (cond c Replicating state)) ≡ true
+still_receives : (role : HalfRole) (state : State) (c : Bool) → (is_receiver role && is_session state) ≡ true → (is_receiver role && is_session (cond c Replicating state)) ≡ true
 still_receives role state c r = grind arith
 
 -- the answer may be given behind any of the places that were applied

@@ -8,12 +8,13 @@ use Rattle.avs_model.specs.declared.entry.Entry.{Entry}
 use Rattle.avs_mirrors.specs.Allowed.{CanDraw, CanFree, CanKnow, CanQueue, CanTurn, CanWeigh, IsLast}
 use Rattle.avs_mirrors.specs.Due.{Due, Keys, freed_due, has, weighed_due}
 use Rattle.avs_mirrors.specs.Entries.{SameSize, a_mark, block_in, greatest, touches}
-use Rattle.avs_mirrors.specs.Half.{HalfState, Logging, Queuing, Replicating, SessionRole, SessionState, drawn, forgotten, is_acting, is_acting_state, is_marked, is_receiver, is_receiving, is_sender, is_sending, is_session, left_sender, weighed, with_freed, with_reached}
+use Rattle.avs_mirrors.specs.Half.{HalfState, Logging, Queuing, Replicating, HalfRole, State, drawn, forgotten, is_acting, is_acting_state, is_marked, is_receiver, is_receiving, is_sender, is_sending, is_session, left_sender, weighed, with_freed, with_reached}
 use Rattle.avs_mirrors.specs.Moves.{DrawSource, Forget, Free, GoOn, Know, LeaveSource, Queue, Turn, Weigh, after}
 use Rattle.avs_mirrors.specs.Pair.{PairState, Session, on_both}
+use Rattle.avs_pair.specs.Cover.{HasNoPlaces}
 use Rattle.avs_pair.proofs.Sound.{AreAnswered, IsAhead, IsFreed, IsHere, IsPending, Keeps, Receives, SameOutside, SameOutsideBoth, Sends, Sound, Stands, is_waiting}
 use Rattle.avs_pair.proofs.Orders.{get_drop}
-use Rattle.avs_pair.proofs.Dues.{IsWithin, freed_known, freed_less, pending_freed, pending_more, same_within, zeros_within}
+use Rattle.avs_pair.proofs.Dues.{IsWithin, freed_known, freed_less, none_in_zeros, pending_freed, pending_more, same_within, zeros_within}
 use Rattle.avs_pair.proofs.Shared.{both_more, outside_freed, outside_more, same_now, waiting_marked}
 use Rattle.avs_pair.proofs.Messages.{IsKnown, answered_when, told_is_known}
 use Rattle.avs_pair.proofs.Sources.{absent, quiet_keeps}
@@ -60,6 +61,7 @@ keeps_free p upto keys h can =
     let b : Stands x s = h.stands known.sends in
     let q : Sends x y s = h.sends known.sends known.same in
     let covered : SameOutsideBoth on due y.due y.images x.images = both_freed x y s keys upto known.reached can.each b.freed q.ahead h.covered in
+    let source_away : is_sending x ≡ false → HasNoPlaces due = λ away. absent (is_sending x) known.sends away in
     let stands : is_sending x ≡ true → Stands z s = λ a. let o = h.stands a in
     let freed : IsFreed due s.order x.known = freed_less x.due due s.order x.known (freed_some x.due keys) o.freed in
     assumption (freed, o) in
@@ -74,7 +76,7 @@ keeps_free p upto keys h can =
       behind = o.behind;
     } in
     let keeps : (t : ℕ) → y.kept t ≡ true → y.number ≡ s.number → Keeps z y s t = λ t k n. assumption (h.keeps t k n) in
-    assumption (covered, stands, receives, sends, keeps, h)
+    assumption (covered, source_away, stands, receives, sends, keeps, h)
 
 -- a source that sends where it did, with the same bits
 quiet_sends : (x z y : HalfState) (s : Session) → z.on ≡ x.on → z.due ≡ x.due → z.images ≡ x.images → Sends x y s → Sends z y s
@@ -272,6 +274,7 @@ keeps_weigh p h can =
     let on : ℕ → Bool = on_both x y in
     let within : IsWithin x.due due = weighed_within x.due x.known s.order in
     let covered = both_more on x.due y.due due y.due y.images x.images within (same_within y.due) h.covered in
+    let source_away : is_sending x ≡ false → HasNoPlaces due = λ away. absent (is_sending x) can.sends away in
     let stands : is_sending x ≡ true → Stands z s = λ a. let o = h.stands a in
     let freed : IsFreed due s.order x.known = weighed_freed x.due s.order x.known o.reached in
     assumption (freed, o) in
@@ -285,29 +288,34 @@ keeps_weigh p h can =
       behind = o.behind;
     } in
     let keeps : (t : ℕ) → y.kept t ≡ true → y.number ≡ s.number → Keeps z y s t = λ t k n. assumption (h.keeps t k n) in
-    assumption (covered, stands, receives, sends, keeps, h)
+    assumption (covered, source_away, stands, receives, sends, keeps, h)
 
 -- ---- its state
 
 -- a source with another state and another place taken: it sends only where it did
-keeps_state : (p : PairState) (state : SessionState) (taken : ℕ) → Sound p → is_sending p.source ≡ true → taken ≤ length p.session.order → (is_marked state ≡ true → (0 < p.session.mark) × (p.session.mark ≤ p.source.known))
+keeps_state : (p : PairState) (state : State) (taken : ℕ) → Sound p → is_sending p.source ≡ true → taken ≤ length p.session.order → (is_marked state ≡ true → (0 < p.session.mark) × (p.session.mark ≤ p.source.known))
     → is_receiving (record p.source { state = state }) ≡ false
+    → is_sending (record p.source { state = state }) ≡ true
     → AreAnswered p.source.number p.target.number (is_acting (record p.source { state = state })) p.messages → Sound (record p { source = record p.source { state = state; taken = taken } })
-keeps_state p state taken h sent within synced no_source told =
+keeps_state p state taken h sent within synced no_source still told =
     let x : HalfState = p.source in
     let y : HalfState = p.target in
     let s : Session = p.session in
     let z : HalfState = record x { state = state; taken = taken } in
     let o : Stands x s = h.stands sent in
     let source_here : IsHere x.on x.here state = record { within = h.source_here.within; away = λ t on gone. absent (x.on t) on (o.on t ∙ sym (o.here t) ∙ gone) } in
+    let source_away : is_sending z ≡ false → HasNoPlaces x.due = λ away. absent (is_sending z) still away in
     let stands : is_sending z ≡ true → Stands z s = λ a. assumption (within, synced, o) in
     let receives : is_receiving y ≡ true → Receives z y s = λ r. assumption (h.receives r) in
     let sends : is_sending z ≡ true → x.number ≡ y.number → Sends z y s = λ a b. quiet_sends x z y s refl refl refl (h.sends sent b) in
     let keeps : (t : ℕ) → y.kept t ≡ true → y.number ≡ s.number → Keeps z y s t = λ t k n. quiet_keeps x z y s t (λ a. (h.keeps t k n).there sent) (h.keeps t k n) in
-    assumption (no_source, source_here, stands, receives, sends, keeps, told, h)
+    assumption (no_source, source_here, source_away, stands, receives, sends, keeps, told, h)
 
-sender_only : (role : SessionRole) (state other : SessionState) → (is_sender role && is_session state) ≡ true → (is_receiver role && is_session other) ≡ false
+sender_only : (role : HalfRole) (state other : State) → (is_sender role && is_session state) ≡ true → (is_receiver role && is_session other) ≡ false
 sender_only role state other is = grind arith
+
+sends_still : (b c : Bool) → (b && c) ≡ true → (b && true) ≡ true
+sends_still b c on = grind arith
 
 off_acts : (b : Bool) → (b && false) ≡ true → ⊥
 off_acts b is = grind arith
@@ -319,13 +327,13 @@ turned_answers p h can = elim can.same [
 ]
 
 pub keeps_turn : (p : PairState) → Sound p → CanTurn p → Sound (after p Turn)
-keeps_turn p h can = keeps_state p Replicating p.source.taken h can.sends (h.stands can.sends).taken (λ m. (can.marked, can.known)) (sender_only p.source.role p.source.state Replicating can.sends) (turned_answers p h can)
+keeps_turn p h can = keeps_state p Replicating p.source.taken h can.sends (h.stands can.sends).taken (λ m. (can.marked, can.known)) (sender_only p.source.role p.source.state Replicating can.sends) (sends_still (is_sender p.source.role) (is_session p.source.state) can.sends) (turned_answers p h can)
 
 pub keeps_go_on : (p : PairState) → Sound p → CanTurn p → Sound (after p GoOn)
-keeps_go_on p h can = keeps_state p Replicating p.source.known h can.sends (h.stands can.sends).reached (λ m. (can.marked, can.known)) (sender_only p.source.role p.source.state Replicating can.sends) (turned_answers p h can)
+keeps_go_on p h can = keeps_state p Replicating p.source.known h can.sends (h.stands can.sends).reached (λ m. (can.marked, can.known)) (sender_only p.source.role p.source.state Replicating can.sends) (sends_still (is_sender p.source.role) (is_session p.source.state) can.sends) (turned_answers p h can)
 
 pub keeps_queuing : (p : PairState) → Sound p → CanQueue p → Sound (after p Queue)
-keeps_queuing p h can = keeps_state p Queuing p.source.known h can.sends (h.stands can.sends).reached (λ m. (h.stands can.sends).synced can.marked) (sender_only p.source.role p.source.state Queuing can.sends)
+keeps_queuing p h can = keeps_state p Queuing p.source.known h can.sends (h.stands can.sends).reached (λ m. (h.stands can.sends).synced can.marked) (sender_only p.source.role p.source.state Queuing can.sends) (sends_still (is_sender p.source.role) (is_session p.source.state) can.sends)
     (answered_when p.source.number p.target.number (is_acting (record p.source { state = Queuing })) p.messages (λ on. absurd (off_acts (is_sender p.source.role) on)))
 
 -- a source that has left: what is due may have grown, and its places may be others
@@ -336,13 +344,13 @@ pub record HasLeft (x z : HalfState) : Type 0 where
   pub due : IsWithin x.due z.due
   pub state : z.state ≡ Logging
 
-pub logging_sends : (b : Bool) (state : SessionState) → state ≡ Logging → (b && is_session state) ≡ true → ⊥
+pub logging_sends : (b : Bool) (state : State) → state ≡ Logging → (b && is_session state) ≡ true → ⊥
 logging_sends b state is a = grind arith
 
-pub logging_acts : (b : Bool) (state : SessionState) → state ≡ Logging → (b && is_acting_state state) ≡ true → ⊥
+pub logging_acts : (b : Bool) (state : State) → state ≡ Logging → (b && is_acting_state state) ≡ true → ⊥
 logging_acts b state is a = grind arith
 
-pub logging_away : (b : Bool) (state : SessionState) → state ≡ Logging → (b && is_session state) ≡ false
+pub logging_away : (b : Bool) (state : State) → state ≡ Logging → (b && is_session state) ≡ false
 logging_away b state is = grind arith
 
 pub left_receives : (x z y : HalfState) (s : Session) → HasLeft x z → Receives x y s → Receives z y s
@@ -352,8 +360,8 @@ left_receives x z y s l o =
     assumption (pending, covered, o)
 
 keeps_left : (p : PairState) (z : HalfState) → Sound p → HasLeft p.source z → ((p.session.number ≤ z.number) ⊎ (p.session.number ≤ p.target.number)) → (z.number ≡ 0 → z.known ≡ 0) → (0 < z.number → z.number ≡ p.target.number → z.known ≤ p.target.applied)
-    → Sound (record p { source = z })
-keeps_left p z h l newest none_known known =
+    → HasNoPlaces z.due → Sound (record p { source = z })
+keeps_left p z h l newest none_known known none =
     let x : HalfState = p.source in
     let y : HalfState = p.target in
     let s : Session = p.session in
@@ -361,18 +369,20 @@ keeps_left p z h l newest none_known known =
     let source_here : IsHere z.on z.here z.state = record { within = rw (l.on, l.here) h.source_here.within; away = λ t on gone. l.state } in
     let sizes : (t : ℕ) → on_both z y t ≡ true → SameSize y.images z.images t = rw (l.on, l.images) h.sizes in
     let covered : SameOutsideBoth (on_both z y) z.due y.due y.images z.images = rw (l.on, l.images) (both_more (on_both x y) x.due y.due z.due y.due y.images x.images l.due (same_within y.due) h.covered) in
+    let source_away : is_sending z ≡ false → HasNoPlaces z.due = λ _. none in
     let stands : is_sending z ≡ true → Stands z s = λ a. absurd (logging_sends (is_sender z.role) z.state l.state a) in
     let receives : is_receiving y ≡ true → Receives z y s = λ r. left_receives x z y s l (h.receives r) in
     let sends : is_sending z ≡ true → z.number ≡ y.number → Sends z y s = λ a b. absurd (logging_sends (is_sender z.role) z.state l.state a) in
     let keeps : (t : ℕ) → y.kept t ≡ true → y.number ≡ s.number → Keeps z y s t = λ t k n. quiet_keeps x z y s t (λ a. absurd (logging_sends (is_sender z.role) z.state l.state a)) (h.keeps t k n) in
     let told : AreAnswered z.number y.number (is_acting z) p.messages = answered_when z.number y.number (is_acting z) p.messages (λ on. absurd (logging_acts (is_sender z.role) z.state l.state on)) in
-    assumption (no_source, source_here, sizes, newest, none_known, known, covered, stands, receives, sends, keeps, told, h)
+    assumption (no_source, source_here, sizes, newest, none_known, known, covered, source_away, stands, receives, sends, keeps, told, h)
 
 pub keeps_leave_source : (p : PairState) → Sound p → Sound (after p LeaveSource)
-keeps_leave_source p h = keeps_left p (left_sender p.source) h (record { on = refl; here = refl; images = refl; due = zeros_within p.source.due; state = refl }) h.newest h.none_known h.known
+keeps_leave_source p h = keeps_left p (left_sender p.source) h (record { on = refl; here = refl; images = refl; due = zeros_within p.source.due; state = refl }) h.newest h.none_known h.known (none_in_zeros p.source.due)
 
 pub keeps_draw_source : (p : PairState) (number : ℕ) → Sound p → CanDraw p p.source number → Sound (after p (DrawSource number))
 keeps_draw_source p number h can = keeps_left p (drawn p.source number) h (record { on = refl; here = refl; images = refl; due = same_within p.source.due; state = can.away }) (inl (above h.newest)) (λ _. refl) (λ _ _. omega arith)
+    (h.source_away (logging_away (is_sender p.source.role) p.source.state can.away))
   where
     above : (p.session.number ≤ p.source.number) ⊎ (p.session.number ≤ p.target.number) → p.session.number ≤ number
     above (inl le) = omega (arith, can.above_source)

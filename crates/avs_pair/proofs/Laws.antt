@@ -49,6 +49,8 @@ pub sound_tight : (p : PairState) → Sound p → IsTight p
 sound_tight p h = record {
   each = λ s set seg place is some. (h.stands s).freed.each set seg place is some;
   applied = λ s same j e set seg here le is none. (h.sends s same).pending.each j e set seg here le is none;
+  source_away = h.source_away;
+  target_away = h.target_away;
 }
 
 pub none_waits : (p : PairState) → Allowed p PlaceMark → NoneWaits (after p PlaceMark)
@@ -93,6 +95,7 @@ sound_prefix p h = record {
       all_blocks p.target.images (after_entries p.session.candidate (between p.session.mark p.target.applied p.session.order)) set
       (size_then _ _ _ set (size_sym _ _ set (k.size some)) (size_sym _ _ set (size_after_all p.session.candidate (between p.session.mark p.target.applied p.session.order) set)))
       (k.behind some reached);
+  contents = λ set kept number. (h.keeps set kept number).contents;
 }
 
 pub known_applied : (p : PairState) → Sound p → p.source.number ≡ p.target.number → p.source.known ≤ p.target.applied

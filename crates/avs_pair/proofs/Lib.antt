@@ -17,3 +17,16 @@ pub mod Steps
 pub mod Rows
 pub mod Making
 pub mod Apart
+pub mod Named
+pub mod HalfSteps
+pub mod HalfMoves
+pub mod HalfSets
+pub mod PairSteps
+pub mod PairMoves
+pub mod PairKept
+pub mod Stopping
+pub mod AtRest
+pub mod Torn
+pub mod AllNames
+pub mod HostRows
+pub mod HostCovers

@@ -4,7 +4,7 @@ use Rattle.std.specs.Prelude.{filter}
 use Rattle.std.proofs.lemmas.Option.{same_Some}
 use Rattle.avs_model.specs.declared.entry.Entry.{Entry}
 use Rattle.avs_mirrors.specs.Allowed.{IsAmong, IsTold}
-use Rattle.avs_mirrors.specs.Half.{Message, SessionRole, SessionState, is_acting_state, is_sender, is_sending, is_session}
+use Rattle.avs_mirrors.specs.Half.{Message, HalfRole, State, is_acting_state, is_sender, is_sending, is_session}
 use Rattle.avs_mirrors.specs.Pair.{PairState, Session}
 use Rattle.avs_pair.specs.Messages.{AreFaithful, IsFaithful}
 use Rattle.avs_pair.proofs.Sound.{AreAnswered, Sound}
@@ -82,7 +82,7 @@ answered_cons source target acts m ms one all = record { each = λ k x n is got 
 pub answered_when : (source target : ℕ) (acts : Bool) (ms : List Message) → (acts ≡ true → source ≡ target) → AreAnswered source target acts ms
 answered_when source target acts ms same = record { each = λ k m n is got number on. same on }
 
-acting_sends : (role : SessionRole) (state : SessionState) → (is_sender role && is_acting_state state) ≡ true → (is_sender role && is_session state) ≡ true
+acting_sends : (role : HalfRole) (state : State) → (is_sender role && is_acting_state state) ≡ true → (is_sender role && is_session state) ≡ true
 acting_sends role state is = grind arith
 
 -- what the source is told was applied in its session

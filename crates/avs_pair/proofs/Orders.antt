@@ -71,7 +71,7 @@ between_push n order e le =
     le_refl : length order ≤ length order
     le_refl = omega arith
 
-drop_get : (from : ℕ) (order : List Entry) (j : ℕ) (e : Entry) → slice_get (drop from order) j ≡ Some e → slice_get order (from + j) ≡ Some e
+pub drop_get : (from : ℕ) (order : List Entry) (j : ℕ) (e : Entry) → slice_get (drop from order) j ≡ Some e → slice_get order (from + j) ≡ Some e
 drop_get zero order j e is = rw zero_add is
   where
     zero_add : zero + j ≡ j

@@ -13,7 +13,7 @@ use Rattle.avs_mirrors.specs.Pair.{PairState, entry_at, on_both, start}
 use Rattle.avs_mirrors.specs.Steps.{AllHappen, Done, Step}
 use Rattle.avs_pair.proofs.Targets.{false_true}
 
-abbrev one_block : Image
+abbrev pub one_block : Image
 one_block = (0 ∷ []) ∷ []
 
 abbrev two_blocks : Image
@@ -23,10 +23,10 @@ abbrev two_segments : Image
 two_segments = replicate 65 (0 ∷ [])
 
 -- the bytes of a write of one block
-abbrev one : ℕ → Image
+abbrev pub one : ℕ → Image
 one byte = (byte ∷ []) ∷ []
 
-abbrev halves : PairState
+abbrev pub halves : PairState
 halves = start (λ set. []) (λ set. [])
 
 abbrev run : Bool → PairState → List PairEvent → PairState
@@ -34,7 +34,7 @@ run queued p [] = p
 run queued p (e ∷ es) = run queued (after_all p (moves queued p e)) es
 
 -- a set enabled as equal in both halves
-abbrev enables : ℕ → Image → List PairEvent
+abbrev pub enables : ℕ → Image → List PairEvent
 enables set image = EnableSource set image false ∷ EnableTarget set image false ∷ []
 
 -- a worker's message of a place is carried
@@ -248,17 +248,17 @@ other_half_follows = (refl, refl, refl, refl)
 
 -- ---- what nothing refuses: a set is enabled, a session begins, its mark is known, and a write is applied and known
 
-abbrev steps_of : List PairEvent → List Step
+abbrev pub steps_of : List PairEvent → List Step
 steps_of [] = []
 steps_of (e ∷ es) = Done false e ∷ steps_of es
 
-abbrev first_write : Entry
+abbrev pub first_write : Entry
 first_write = written 0 0 (one 17)
 
-abbrev mark_message : Message
+abbrev pub mark_message : Message
 mark_message = record { number = 1; place = 1; entry = a_mark; got = None }
 
-abbrev write_message : Message
+abbrev pub write_message : Message
 write_message = record { number = 1; place = 2; entry = first_write; got = None }
 
 twice_there : (b : Bool) → cond b true false ≡ true → cond b true (cond b true false) ≡ true
@@ -273,7 +273,7 @@ none_due : (b : Bool) → is_zero (cond (is_some (zero_of (cond (is_some (nothin
 none_due true = refl
 none_due false = refl
 
-a_run_happens : AllHappen halves (steps_of (enables 0 one_block ++ Begin false 256 ∷ SyncMark ∷ TakeNext ∷ Carry mark_message ∷ Back 1 ∷ WriteSource 0 0 (one 17) ∷ TakeNext ∷ Carry write_message ∷ Back 2 ∷ []))
+pub a_run_happens : AllHappen halves (steps_of (enables 0 one_block ++ Begin false 256 ∷ SyncMark ∷ TakeNext ∷ Carry mark_message ∷ Back 1 ∷ WriteSource 0 0 (one 17) ∷ TakeNext ∷ Carry write_message ∷ Back 2 ∷ []))
 unfolding after_entry touches put tabulate
 a_run_happens = (
   record { away = refl; new = refl; size = λ on. false_true on; equal = λ on _. false_true on },

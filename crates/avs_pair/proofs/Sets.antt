@@ -11,11 +11,12 @@ use Rattle.avs_mirrors.specs.Entries.{Images, SameSize, after_entries, between, 
 use Rattle.avs_mirrors.specs.Half.{HalfState, Logging, Message, Sets, is_acting, is_receiver, is_receiving, is_sender, is_sending, joined, moved, no_sets, parted, removed, with_set}
 use Rattle.avs_mirrors.specs.Moves.{EndSource, EndTarget, JoinSource, JoinTarget, MoveSource, MoveTarget, PartSource, PartTarget, after}
 use Rattle.avs_mirrors.specs.Pair.{PairState, Session, no_session, on_both, session_for}
+use Rattle.avs_pair.specs.Cover.{HasNoPlaces}
 use Rattle.avs_pair.specs.Messages.{AreFaithful}
 use Rattle.avs_pair.specs.Session.{HasMark, IsFitting}
 use Rattle.avs_pair.proofs.Sound.{IsClean, IsHere, IsPending, Keeps, Receives, SameOutside, SameOutsideBoth, Sends, Sound, Stands}
 use Rattle.avs_pair.proofs.Images.{past_end, size_after_all, size_sym, size_then}
-use Rattle.avs_pair.proofs.Dues.{mark_apart}
+use Rattle.avs_pair.proofs.Dues.{mark_apart, none_in_set}
 use Rattle.avs_pair.proofs.Shared.{eq_cases}
 use Rattle.avs_pair.proofs.Messages.{answered_none, faithful_none}
 use Rattle.avs_pair.proofs.Sources.{absent, both_on, left_on, quiet_keeps, quiet_receives, right_on}
@@ -112,6 +113,7 @@ keeps_join_source p set keys filled h can =
     let s : Session = p.session in
     let z : HalfState = joined x set keys filled in
     let source_here : IsHere z.on z.here z.state = joined_here x set can.away h.source_here in
+    let source_away : is_sending x ≡ false → HasNoPlaces z.due = λ away. none_in_set x.due set keys (h.source_away away) in
     let sizes : (t : ℕ) → on_both z y t ≡ true → SameSize y.images x.images t = λ t here.
     size_sym _ _ t (joined_size x y (is_receiving y) set keys can (λ n a b. size_sym _ _ n (h.sizes n (both_on (x.on n) (y.on n) a b))) t (left_on (z.on t) (y.on t) here) (right_on (z.on t) (y.on t) here)) in
     let none_known : x.number ≡ 0 → z.known ≡ 0 = λ _. refl in
@@ -139,7 +141,7 @@ keeps_join_source p set keys filled h can =
     assumption (pending, covered, o) in
     let sends : is_sending x ≡ true → x.number ≡ y.number → Sends z y s = λ a b. absurd (logging_sends (is_sender x.role) x.state can.away a) in
     let keeps : (t : ℕ) → y.kept t ≡ true → y.number ≡ s.number → Keeps z y s t = λ t k n. quiet_keeps x z y s t (λ a. absurd (logging_sends (is_sender x.role) x.state can.away a)) (h.keeps t k n) in
-    assumption (source_here, sizes, none_known, known, covered, stands, receives, sends, keeps, h)
+    assumption (source_here, sizes, none_known, known, covered, source_away, stands, receives, sends, keeps, h)
 
 pub keeps_join_target : (p : PairState) (set : ℕ) (keys : Segments) (filled : Bool) → Sound p → CanJoin p.target p.source (is_sending p.source) set keys → Sound (after p (JoinTarget set keys filled))
 keeps_join_target p set keys filled h can =
@@ -149,6 +151,7 @@ keeps_join_target p set keys filled h can =
     let z : HalfState = joined y set keys filled in
     let away : is_receiving z ≡ false = logging_away (is_receiver y.role) y.state can.away in
     let target_here : IsHere z.on z.here z.state = joined_here y set can.away h.target_here in
+    let target_away : HasNoPlaces z.due = none_in_set y.due set keys h.target_away in
     let sizes : (t : ℕ) → on_both x z t ≡ true → SameSize y.images x.images t = λ t here.
     joined_size y x (is_sending x) set keys can (λ n a b. h.sizes n (both_on (x.on n) (y.on n) b a)) t (right_on (x.on t) (z.on t) here) (left_on (x.on t) (z.on t) here) in
     let covered : SameOutsideBoth (on_both x z) x.due z.due y.images x.images = record {
@@ -181,9 +184,11 @@ keeps_join_target p set keys filled h can =
       size = o.size;
       behind = o.behind;
       there = o.there;
+      contents = ap (λ (b : Bool). cond b filled (y.contents t)) w.0 ∙ o.contents;
     } in
+    let kept_some : (t : ℕ) → z.kept t ≡ true → 0 < y.number = λ t k. h.kept_some t (without_set y.kept set t k).1 in
     let kept_on : (t : ℕ) → z.kept t ≡ true → z.on t ≡ true = λ t k. with_more y.on set t (inr (h.kept_on t (without_set y.kept set t k).1)) in
-    assumption (target_here, sizes, covered, receives, sends, kept_on, keeps, h)
+    assumption (target_here, sizes, covered, target_away, receives, sends, kept_on, kept_some, keeps, h)
 
 -- ---- a set that parts, or goes to another group
 
@@ -200,6 +205,7 @@ keeps_part_source p set h away =
     let s : Session = p.session in
     let z : HalfState = parted x set in
     let source_here : IsHere z.on z.here z.state = parted_here x set away h.source_here in
+    let source_away : is_sending x ≡ false → HasNoPlaces z.due = λ away. none_in_set x.due set no_sets (h.source_away away) in
     let off : (t : ℕ) → on_both z y t ≡ true → nat_eq t set ≡ false = λ t here. (without_set x.on set t (left_on (z.on t) (y.on t) here)).0 in
     let sub : (t : ℕ) → on_both z y t ≡ true → on_both x y t ≡ true = λ t here. both_on (x.on t) (y.on t) (without_set x.on set t (left_on (z.on t) (y.on t) here)).1 (right_on (z.on t) (y.on t) here) in
     let sizes : (t : ℕ) → on_both z y t ≡ true → SameSize y.images x.images t = λ t here. h.sizes t (sub t here) in
@@ -213,7 +219,7 @@ keeps_part_source p set h away =
     assumption (pending, covered, o) in
     let sends : is_sending x ≡ true → x.number ≡ y.number → Sends z y s = λ a b. absurd (logging_sends (is_sender x.role) x.state away a) in
     let keeps : (t : ℕ) → y.kept t ≡ true → y.number ≡ s.number → Keeps z y s t = λ t k n. quiet_keeps x z y s t (λ a. absurd (logging_sends (is_sender x.role) x.state away a)) (h.keeps t k n) in
-    assumption (source_here, sizes, none_known, known, covered, stands, receives, sends, keeps, h)
+    assumption (source_here, sizes, none_known, known, covered, source_away, stands, receives, sends, keeps, h)
 
 pub keeps_part_target : (p : PairState) (set : ℕ) → Sound p → p.target.state ≡ Logging → Sound (after p (PartTarget set))
 keeps_part_target p set h away =
@@ -222,6 +228,7 @@ keeps_part_target p set h away =
     let s : Session = p.session in
     let z : HalfState = parted y set in
     let target_here : IsHere z.on z.here z.state = parted_here y set away h.target_here in
+    let target_away : HasNoPlaces z.due = none_in_set y.due set no_sets h.target_away in
     let idle : is_receiving z ≡ false = logging_away (is_receiver y.role) y.state away in
     let off : (t : ℕ) → on_both x z t ≡ true → nat_eq t set ≡ false = λ t here. (without_set y.on set t (right_on (x.on t) (z.on t) here)).0 in
     let sub : (t : ℕ) → on_both x z t ≡ true → on_both x y t ≡ true = λ t here. both_on (x.on t) (y.on t) (left_on (x.on t) (z.on t) here) (without_set y.on set t (right_on (x.on t) (z.on t) here)).1 in
@@ -238,9 +245,11 @@ keeps_part_target p set h away =
       size = o.size;
       behind = o.behind;
       there = o.there;
+      contents = o.contents;
     } in
+    let kept_some : (t : ℕ) → z.kept t ≡ true → 0 < y.number = λ t k. h.kept_some t (without_set y.kept set t k).1 in
     let kept_on : (t : ℕ) → z.kept t ≡ true → z.on t ≡ true = λ t k. let w = without_set y.kept set t k in ap (λ (b : Bool). cond b false (y.on t)) w.0 ∙ h.kept_on t w.1 in
-    assumption (target_here, sizes, covered, receives, sends, kept_on, keeps, h)
+    assumption (target_here, sizes, covered, target_away, receives, sends, kept_on, kept_some, keeps, h)
 
 moved_here : (h : HalfState) (set : ℕ) (there : Bool) → CanMove h set there → IsHere h.on h.here h.state → IsHere h.on (with_set h.here set there) h.state
 moved_here h set there can o = record { within = joined_within h.here h.on set there can.on o.within; away = λ t on gone. can.away }
@@ -289,6 +298,7 @@ end_source p new h away which =
     let s : Session = p.session in
     let z : HalfState = removed x in
     let no_source : is_receiving z ≡ false = refl in
+    let source_away : is_sending z ≡ false → HasNoPlaces x.due = λ _. h.source_away (logging_away (is_sender x.role) x.state away) in
     let newest : (new.number ≤ 0) ⊎ (new.number ≤ y.number) = elim which [ inl same ↦ inr (omega (arith, ap (λ (n : Session). n.number) same.0, same.1)) | inr none ↦ inl (omega (arith, ap (λ (n : Session). n.number) none.0)) ] in
     let mark : HasMark new = elim which [ inl same ↦ subst HasMark (sym same.0) h.mark | inr none ↦ subst HasMark (sym none.0) empty_mark ] in
     let applied : y.number ≡ new.number → y.applied ≤ length new.order = elim which [
@@ -305,7 +315,7 @@ end_source p new h away which =
     let sends : is_sending z ≡ true → 0 ≡ y.number → Sends z y new = λ a b. false_true a in
     let keeps : (t : ℕ) → y.kept t ≡ true → y.number ≡ new.number → Keeps z y new t = λ t k. elim which [
       | inl same ↦ subst (λ (n : Session). y.number ≡ n.number → Keeps z y n t) (sym same.0) (λ n. quiet_keeps x z y s t (λ a. false_true a) (h.keeps t k n))
-      | inr none ↦ subst (λ (n : Session). y.number ≡ n.number → Keeps z y n t) (sym none.0) (λ n. record { size = λ some. absurd (omega (arith, some)); behind = λ some reached i. absurd (omega (arith, some)); there = λ a. false_true a })
+      | inr none ↦ subst (λ (n : Session). y.number ≡ n.number → Keeps z y n t) (sym none.0) (λ n. record { size = λ some. absurd (omega (arith, some)); behind = λ some reached i. absurd (omega (arith, some)); there = λ a. false_true a; contents = absurd (none_kept (h.kept_some t k) n) })
     ] in
     let messages = faithful_none new y.number y.applied in
     let told = answered_none 0 y.number (is_acting z) in
@@ -313,11 +323,14 @@ end_source p new h away which =
       | inl same ↦ subst (λ (n : Session). AreFaithful n y.number y.applied y.held) (sym same.0) h.held
       | inr none ↦ none_faithful new y.number y.applied y.held (h.none_held (not_receiving none.1 (cases_Bool (is_receiving y))))
     ] in
-    assumption (no_source, newest, mark, applied, none_known, known, stands, receives, sends, keeps, messages, told, held, h)
+    assumption (no_source, source_away, newest, mark, applied, none_known, known, stands, receives, sends, keeps, messages, told, held, h)
   where
     not_receiving : (p.target.number ≡ p.session.number → ⊥) → (is_receiving p.target ≡ true) ⊎ (is_receiving p.target ≡ false) → is_receiving p.target ≡ false
     not_receiving none (inl r) = absurd (none (h.receives r).number)
     not_receiving none (inr is) = is
+
+    none_kept : 0 < p.target.number → p.target.number ≡ 0 → ⊥
+    none_kept some is = absurd (omega (arith, some, is))
 
 ne_of : (a b : ℕ) → nat_eq a b ≡ false → a ≡ b → ⊥
 ne_of a b off is = grind (arith, nat_tests)
@@ -352,12 +365,13 @@ end_target p new h away which =
     let receives : is_receiving z ≡ true → Receives x z new = λ r. false_true r in
     let sends : is_sending x ≡ true → x.number ≡ 0 → Sends x z new = λ a b. absurd (omega (arith, b, (h.stands a).some)) in
     let kept_on : (t : ℕ) → false ≡ true → y.on t ≡ true = λ t k. false_true k in
+    let kept_some : (t : ℕ) → false ≡ true → 0 < 0 = λ t k. false_true k in
     let keeps : (t : ℕ) → false ≡ true → 0 ≡ new.number → Keeps x z new t = λ t k n. false_true k in
     let messages = faithful_none new 0 0 in
     let told = answered_none x.number 0 (is_acting x) in
     let held = faithful_none new 0 0 in
     let none_held : is_receiving z ≡ false → z.held ≡ [] = λ _. refl in
-    assumption (no_target, newest, mark, applied, none_applied, known, stands, receives, sends, kept_on, keeps, messages, told, held, none_held, h)
+    assumption (no_target, newest, mark, applied, none_applied, known, stands, receives, sends, kept_on, kept_some, keeps, messages, told, held, none_held, h)
 
 pub keeps_end_target : (p : PairState) → Sound p → p.target.state ≡ Logging → Sound (after p EndTarget)
 keeps_end_target p h away = end_target p (session_for p.session p.source.number) h away (session_cases p.session p.source.number)

@@ -4,8 +4,9 @@ use Rattle.avs_model.specs.declared.entry.Entry.{Entry}
 use Rattle.avs_mirrors.specs.Allowed.{IsLast}
 use Rattle.avs_mirrors.specs.Due.{Due, has, is_zero}
 use Rattle.avs_mirrors.specs.Entries.{Images, SameSize, after_entries, after_entry, between, block_in, touches}
-use Rattle.avs_mirrors.specs.Half.{HalfState, Logging, Message, SessionState, Sets, is_acting, is_marked, is_receiving, is_sending, knows_mark}
+use Rattle.avs_mirrors.specs.Half.{HalfState, Logging, Message, State, Sets, is_acting, is_marked, is_receiving, is_sending, knows_mark}
 use Rattle.avs_mirrors.specs.Pair.{PairState, Session, is_copying, on_both}
+use Rattle.avs_pair.specs.Cover.{HasNoPlaces}
 use Rattle.avs_pair.specs.Messages.{AreFaithful}
 use Rattle.avs_pair.specs.Session.{AreFitting, HasMark}
 
@@ -51,7 +52,7 @@ pub record IsOnce (images : Images) (order : List Entry) (place : ℕ) : Type 0 
   pub each : (j : ℕ) (e : Entry) → j + 1 ≡ place → slice_get order j ≡ Some e → (set i : ℕ) → block_in (after_entry images e) set i ≡ block_in images set i
 
 -- a set that a half does not have here any more, but has still, is away with the half in no session
-pub record IsHere (on here : Sets) (state : SessionState) : Type 0 where
+pub record IsHere (on here : Sets) (state : State) : Type 0 where
   pub within : (set : ℕ) → here set ≡ true → on set ≡ true
   pub away : (set : ℕ) → on set ≡ true → here set ≡ false → state ≡ Logging
 
@@ -60,6 +61,7 @@ pub record Keeps (x y : HalfState) (s : Session) (set : ℕ) : Type 0 where
   pub size : 0 < s.mark → SameSize s.candidate y.images set
   pub behind : 0 < s.mark → s.mark ≤ y.applied → (i : ℕ) → IsBlockBehind y s set i
   pub there : is_sending x ≡ true → x.on set ≡ true
+  pub contents : y.contents set ≡ knows_mark s.mark y.applied
 
 -- what holds while the target receives
 pub record Receives (x y : HalfState) (s : Session) : Type 0 where
@@ -115,10 +117,13 @@ pub record Sound (p : PairState) : Type 0 where
   pub none_known : p.source.number ≡ 0 → p.source.known ≡ 0
   pub known : 0 < p.source.number → p.source.number ≡ p.target.number → p.source.known ≤ p.target.applied
   pub covered : SameOutsideBoth (on_both p.source p.target) p.source.due p.target.due p.target.images p.source.images
+  pub source_away : is_sending p.source ≡ false → HasNoPlaces p.source.due
+  pub target_away : HasNoPlaces p.target.due
   pub stands : is_sending p.source ≡ true → Stands p.source p.session
   pub receives : is_receiving p.target ≡ true → Receives p.source p.target p.session
   pub sends : is_sending p.source ≡ true → p.source.number ≡ p.target.number → Sends p.source p.target p.session
   pub kept_on : (set : ℕ) → p.target.kept set ≡ true → p.target.on set ≡ true
+  pub kept_some : (set : ℕ) → p.target.kept set ≡ true → 0 < p.target.number
   pub keeps : (set : ℕ) → p.target.kept set ≡ true → p.target.number ≡ p.session.number → Keeps p.source p.target p.session set
   pub messages : AreFaithful p.session p.target.number p.target.applied p.messages
   pub answered : AreAnswered p.source.number p.target.number (is_acting p.source) p.messages

@@ -16,12 +16,13 @@ use Rattle.avs_mirrors.specs.Entries.{Images, SameSize, a_mark, after_entries, a
 use Rattle.avs_mirrors.specs.Half.{HalfState, Message, Sets, is_acting, is_marked, is_receiving, is_sending, knows_mark, with_change, with_copy, with_mark, with_place, with_taken}
 use Rattle.avs_mirrors.specs.Moves.{ChangeSource, NoteSource, PlaceCopy, PlaceMark, PlaceWrite, Take, after, marked, taken_message}
 use Rattle.avs_mirrors.specs.Pair.{PairState, Session, is_copying, next_place, on_both, with_entry}
+use Rattle.avs_pair.specs.Cover.{HasNoPlaces}
 use Rattle.avs_pair.specs.Messages.{IsFaithful}
 use Rattle.avs_pair.specs.Session.{AreFitting, HasMark, IsFitting}
 use Rattle.avs_pair.proofs.Sound.{IsAhead, IsBefore, IsBlockBehind, IsClean, IsFreed, IsOnce, IsPending, Keeps, Receives, SameOutside, Sends, Sound, Stands, is_waiting}
 use Rattle.avs_pair.proofs.Images.{copy_elsewhere, copy_once, copy_touches, once_more, size_after, size_same, size_sym, size_then, untouched}
 use Rattle.avs_pair.proofs.Orders.{between_more, slice_get_push}
-use Rattle.avs_pair.proofs.Dues.{IsWithin, copied_within, freed_copied, freed_less, freed_placed, freed_push, mark_apart, noted_within, pending_more, pending_push, placed_touched, placed_within, same_within}
+use Rattle.avs_pair.proofs.Dues.{IsWithin, copied_within, freed_copied, freed_less, freed_placed, freed_push, mark_apart, none_in_noted, noted_within, pending_more, pending_push, placed_touched, placed_within, same_within}
 use Rattle.avs_pair.proofs.Shared.{IsInsideDue, both_changed_source, both_more, both_source, changes_inside, outside_changed, outside_more, outside_source, same_apart, same_copy, same_write, waiting_noted, waiting_placed}
 use Rattle.avs_pair.proofs.Messages.{answered_cons, faithful_cons, faithful_push}
 
@@ -46,7 +47,7 @@ quiet_receives x z y s on due images o = let pending : IsPending (on_both z y) z
     assumption (pending, covered, o)
 
 pub quiet_keeps : (x z y : HalfState) (s : Session) (set : ℕ) → (is_sending z ≡ true → z.on set ≡ true) → Keeps x y s set → Keeps z y s set
-quiet_keeps x z y s set there o = record { size = o.size; behind = o.behind; there = there }
+quiet_keeps x z y s set there o = record { size = o.size; behind = o.behind; there = there; contents = o.contents }
 
 -- ---- bits
 
@@ -63,6 +64,7 @@ keeps_note_source p keys h =
     let on : ℕ → Bool = on_both x y in
     let within : IsWithin x.due due = noted_within x.due keys in
     let covered = both_more on x.due y.due due y.due y.images x.images within (same_within y.due) h.covered in
+    let source_away : is_sending x ≡ false → HasNoPlaces due = λ away. none_in_noted x.due keys (h.source_away away) in
     let stands : is_sending x ≡ true → Stands z s = λ a. let o = h.stands a in
     let freed : IsFreed due s.order x.known = freed_less x.due due s.order x.known (noted_some x.due keys) o.freed in
     assumption (freed, o) in
@@ -76,7 +78,7 @@ keeps_note_source p keys h =
       behind = o.behind;
     } in
     let keeps : (t : ℕ) → y.kept t ≡ true → y.number ≡ s.number → Keeps z y s t = λ t k n. quiet_keeps x z y s t (λ a. (h.keeps t k n).there a) (h.keeps t k n) in
-    assumption (covered, stands, receives, sends, keeps, h)
+    assumption (covered, source_away, stands, receives, sends, keeps, h)
 
 pub keeps_change_source : (p : PairState) (set : ℕ) (image : Image) → Sound p → is_sending p.source ≡ false → ChangesInside p.source set image → Sound (after p (ChangeSource set image))
 keeps_change_source p set image h away can =
@@ -130,6 +132,7 @@ keeps_more x z y s e t there le o = record {
   size = o.size;
   behind = λ some reached i. behind_more y s e t i reached le (o.behind some reached i);
   there = there;
+  contents = o.contents;
 }
 
 -- entries stay inside volumes of the same size, and so does one more
@@ -186,6 +189,7 @@ keeps_place_write p set at bytes h can =
     let mark = mark_more s e refl (λ _. refl) h.mark in
     let applied : y.number ≡ s.number → y.applied ≤ length (s.order ++ e ∷ []) = λ same. marked_more s.order e y.applied (h.applied same) in
     let covered = both_source on x.due z.due y.due y.images x.images e within apart h.covered in
+    let source_away : is_sending x ≡ false → HasNoPlaces z.due = λ away. absent (is_sending x) can.sends away in
     let stands : is_sending x ≡ true → Stands z new = λ a. let o = h.stands a in
     let counted : z.last ≡ length new.order = sym (length_push s.order e) in
     let reached : x.known ≤ length new.order = marked_more s.order e x.known o.reached in
@@ -220,7 +224,7 @@ keeps_place_write p set at bytes h can =
     let keeps : (t : ℕ) → y.kept t ≡ true → y.number ≡ s.number → Keeps z y new t = λ t k n. keeps_more x z y s e t (λ a. (h.keeps t k n).there a) (h.applied n) (h.keeps t k n) in
     let messages = faithful_push s new e y.number y.applied p.messages refl refl h.messages in
     let held = faithful_push s new e y.number y.applied y.held refl refl h.held in
-    assumption (sizes, mark, applied, covered, stands, receives, sends, keeps, messages, held, h)
+    assumption (sizes, mark, applied, covered, source_away, stands, receives, sends, keeps, messages, held, h)
 
 apart_pair : (t g set seg : ℕ) → (nat_eq t set && nat_eq g seg) ≡ false → (t ≢ set) ⊎ (g ≢ seg)
 apart_pair t g set seg off = grind (arith, nat_tests)
@@ -276,6 +280,7 @@ keeps_place_copy p set seg h can =
     let mark = mark_more s e refl (λ some. absurd (omega (arith, can.copying, some))) h.mark in
     let applied : y.number ≡ s.number → y.applied ≤ length (s.order ++ e ∷ []) = λ same. marked_more s.order e y.applied (h.applied same) in
     let covered = both_more on x.due y.due z.due y.due y.images x.images within (same_within y.due) h.covered in
+    let source_away : is_sending x ≡ false → HasNoPlaces z.due = λ away. absent (is_sending x) can.sends away in
     let stands : is_sending x ≡ true → Stands z new = λ a. let o = h.stands a in
     let counted : z.last ≡ length new.order = sym (length_push s.order e) in
     let reached : x.known ≤ length new.order = marked_more s.order e x.known o.reached in
@@ -300,7 +305,7 @@ keeps_place_copy p set seg h can =
     let keeps : (t : ℕ) → y.kept t ≡ true → y.number ≡ s.number → Keeps z y new t = λ t k n. keeps_more x z y s e t (λ a. (h.keeps t k n).there a) (h.applied n) (h.keeps t k n) in
     let messages = faithful_push s new e y.number y.applied p.messages refl refl h.messages in
     let held = faithful_push s new e y.number y.applied y.held refl refl h.held in
-    assumption (mark, applied, covered, stands, receives, sends, keeps, messages, held, h)
+    assumption (mark, applied, covered, source_away, stands, receives, sends, keeps, messages, held, h)
 
 -- no segment waits any more, so once all is applied the target has the source's blocks
 all_same : (x y : HalfState) (s : Session) → ((t g : ℕ) → x.on t ≡ true → is_zero (x.due t g) ≡ false) → y.applied ≤ length s.order → IsAhead x y s → (t i : ℕ) → on_both x y t ≡ true → IsClean y t (i / 64)
@@ -376,6 +381,7 @@ keeps_place_mark p h can =
       size = λ some. size_sym _ _ t (h.sizes t (both_on (x.on t) (y.on t) (o.there can.sends) (h.kept_on t k)));
       behind = λ some reached i. absurd (omega (arith, h.applied n, reached));
       there = o.there;
+      contents = o.contents ∙ not_yet s.mark y.applied (length s.order) can.copying (h.applied n);
     } in
     let messages = faithful_push s new a_mark y.number y.applied p.messages refl refl h.messages in
     let held = faithful_push s new a_mark y.number y.applied y.held refl refl h.held in

@@ -62,10 +62,10 @@ stopped_allowed : (queued : Bool) (p : PairState) (e : PairEvent) (ms : List Mov
 stopped_allowed queued p (WriteSource set at bytes) ms h a s = stops_write queued p set at bytes ms h a s
 stopped_allowed queued p (WriteTarget set at bytes) ms h a s = stops_away_target p (written set at bytes) ms a.0 s
 stopped_allowed queued p (WriteFull set at bytes) ms h a s = stops_full p (written set at bytes) ms s
-stopped_allowed queued p (SyncCopy set seg) ms h a s = only p ms [] s.1 tt
+stopped_allowed queued p (SyncCopy set seg) ms h a s = only p ms [] s tt
 stopped_allowed queued p SyncMark ms h a s = only p ms [] s.1 tt
 stopped_allowed queued p SyncFull ms h a s = stops_whole queued p SyncFull ms h a s
-stopped_allowed queued p TakeNext ms h a s = absurd s
+stopped_allowed queued p TakeNext ms h a s = only p ms [] s.1 tt
 stopped_allowed queued p (Carry m) ms h a s = front_allowed p ms (brought p m) s (brought_allowed p m a)
 stopped_allowed queued p (Back upto) ms h a s = stops_back p upto (learn p upto) ms (inl a) (back_allowed p upto a) s
 stopped_allowed queued p (PlaceTake set at bytes) ms h a s = stops_write queued p set at bytes ms h a.1 s

@@ -9,15 +9,16 @@ use Rattle.avs_model.specs.declared.entry.Entry.{Entry}
 use Rattle.avs_mirrors.specs.Allowed.{CanDraw, ChangesInside, IsHeldFrom, IsNext}
 use Rattle.avs_mirrors.specs.Due.{Due, Keys, has, noted}
 use Rattle.avs_mirrors.specs.Entries.{Images, SameSize, after_entries, after_entry, between, block_in, is_mark, touches}
-use Rattle.avs_mirrors.specs.Half.{HalfState, Logging, Message, Replicating, SessionRole, SessionState, Sets, applied_to, drawn, is_acting, is_marked, is_receiver, is_receiving, is_sender, is_sending, is_session, knows_mark, left_receiver, with_change, with_held, with_set}
+use Rattle.avs_mirrors.specs.Half.{HalfState, Logging, Message, Replicating, HalfRole, State, Sets, applied_to, drawn, is_acting, is_marked, is_receiver, is_receiving, is_sender, is_sending, is_session, knows_mark, left_receiver, with_change, with_held, with_set}
 use Rattle.avs_mirrors.specs.Moves.{Apply, ChangeTarget, DrawTarget, Hold, LeaveTarget, NoteTarget, Reply, after, answered}
 use Rattle.avs_mirrors.specs.Pair.{PairState, Session, on_both}
+use Rattle.avs_pair.specs.Cover.{HasNoPlaces}
 use Rattle.avs_pair.specs.Messages.{AreFaithful, IsFaithful}
 use Rattle.avs_pair.specs.Session.{AreFitting}
 use Rattle.avs_pair.proofs.Sound.{AreAnswered, IsBefore, IsClean, IsHere, IsOnce, IsPending, Keeps, Receives, SameOutside, Sends, Sound}
 use Rattle.avs_pair.proofs.Images.{after_entries-push, once_more, same_after, same_after_all, size_after, size_after_all, size_sym, size_then, untouched}
 use Rattle.avs_pair.proofs.Orders.{between_first, between_last, between_none}
-use Rattle.avs_pair.proofs.Dues.{IsWithin, noted_within, pending_next, same_within}
+use Rattle.avs_pair.proofs.Dues.{IsWithin, none_in_left, none_in_noted, noted_within, pending_next, same_within}
 use Rattle.avs_pair.proofs.Shared.{IsInsideDue, both_changed_target, both_from, both_more, changes_inside}
 use Rattle.avs_pair.proofs.Messages.{answered_cons, answered_when, faithful_at, faithful_cons, faithful_drawn, faithful_filter, faithful_next, faithful_none}
 use Rattle.avs_pair.proofs.Sources.{absent, fitting_same, right_on}
@@ -36,6 +37,7 @@ keeps_note_target p keys h =
     let z : HalfState = record y { due = more } in
     let within : IsWithin y.due more = noted_within y.due keys in
     let covered = both_more (on_both x y) x.due y.due x.due more y.images x.images (same_within x.due) within h.covered in
+    let target_away : HasNoPlaces more = none_in_noted y.due keys h.target_away in
     let receives : is_receiving y ≡ true → Receives x z s = λ r. let o = h.receives r in let before : IsBefore z s = record { each = o.before.each } in assumption (before, o) in
     let sends : is_sending x ≡ true → x.number ≡ y.number → Sends x z s = λ a b. let o = h.sends a b in record {
       pending = o.pending;
@@ -43,7 +45,7 @@ keeps_note_target p keys h =
       behind = λ some reached t i here clean. o.behind some reached t i here (clean_less y more t (i / 64) within clean);
     } in
     let keeps : (t : ℕ) → y.kept t ≡ true → y.number ≡ s.number → Keeps x z s t = λ t k n. assumption (h.keeps t k n) in
-    assumption (covered, receives, sends, keeps, h)
+    assumption (covered, target_away, receives, sends, keeps, h)
 
 -- a target that does not receive is clean where it has no bits
 pub clean_away : (y : HalfState) (t g : ℕ) → is_receiving y ≡ false → IsClean y t g → has y.due t g ≡ false
@@ -86,9 +88,11 @@ keeps_change_target p set image h away can =
       size = λ some. record { len = (o.size some).len ∙ ap (λ (img : Image). length img) (sym same) };
       behind = λ some reached i. ap (λ (img : Image). block_at img i) same ∙ o.behind some reached i;
       there = o.there;
+      contents = ap (λ (b : Bool). cond b true (y.contents t)) w.0 ∙ o.contents;
     } in
     let kept_on : (t : ℕ) → z.kept t ≡ true → y.on t ≡ true = λ t k. h.kept_on t (without_set y.kept set t k).1 in
-    assumption (sizes, covered, receives, sends, kept_on, keeps, h)
+    let kept_some : (t : ℕ) → z.kept t ≡ true → 0 < y.number = λ t k. h.kept_some t (without_set y.kept set t k).1 in
+    assumption (sizes, covered, receives, sends, kept_on, kept_some, keeps, h)
 
 pub keeps_hold : (p : PairState) (m : Message) → Sound p → IsHeldFrom p m → Sound (after p (Hold m))
 keeps_hold p m h from =
@@ -123,7 +127,7 @@ keeps_reply p m h from =
     reached : (n : ℕ) → p.target.applied ≡ n → n ≤ p.target.applied
     reached n is = omega arith
 
-no_sender : (role : SessionRole) (state other : SessionState) → (is_receiver role && is_session state) ≡ true → (is_sender role && is_session other) ≡ false
+no_sender : (role : HalfRole) (state other : State) → (is_receiver role && is_session state) ≡ true → (is_sender role && is_session other) ≡ false
 no_sender role state other r = grind arith
 
 -- what is to come begins with this entry
@@ -155,14 +159,14 @@ behind_next x y s e t here there b k some reached i = elim (cases_lt y.applied s
 ]
 
 -- it is replicating from the mark on, and has contents
-reached_next : (c : Bool) (state : SessionState) (mark n : ℕ) → c ≡ nat_eq (n + 1) mark → is_marked state ≡ (nat_lt 0 mark && nat_le mark n) → is_marked (cond c Replicating state) ≡ (nat_lt 0 mark && nat_le mark (n + 1))
+reached_next : (c : Bool) (state : State) (mark n : ℕ) → c ≡ nat_eq (n + 1) mark → is_marked state ≡ (nat_lt 0 mark && nat_le mark n) → is_marked (cond c Replicating state) ≡ (nat_lt 0 mark && nat_le mark (n + 1))
 reached_next true state mark n is was = grind (arith, nat_tests)
 reached_next false state mark n is was = was ∙ other mark n (sym is)
   where
     other : (mark n : ℕ) → nat_eq (n + 1) mark ≡ false → (nat_lt 0 mark && nat_le mark n) ≡ (nat_lt 0 mark && nat_le mark (n + 1))
     other mark n off = grind (arith, nat_tests)
 
-contents_next : (c on filled : Bool) (state : SessionState) → on ≡ true → filled ≡ is_marked state → ((c && on) || filled) ≡ is_marked (cond c Replicating state)
+contents_next : (c on filled : Bool) (state : State) → on ≡ true → filled ≡ is_marked state → ((c && on) || filled) ≡ is_marked (cond c Replicating state)
 contents_next true on filled state is was = grind arith
 contents_next false on filled state is was = was
 
@@ -180,7 +184,7 @@ once_applied images order n e there = record { each = λ j f is at set i. subst 
 outside_applied : (on : Sets) (due : Due) (a b : Images) (e : Entry) → ((t g : ℕ) → on t ≡ true → has due t g ≡ false → touches e t g ≡ false) → SameOutside on due a b → SameOutside on due (after_entry a e) b
 outside_applied on due a b e apart s = record { each = λ t i here none. untouched a e t i (apart t (i / 64) here none) ∙ s.each t i here none }
 
-still : (role : SessionRole) (state : SessionState) (c : Bool) → (is_receiver role && is_session state) ≡ true → (is_receiver role && is_session (cond c Replicating state)) ≡ true
+still : (role : HalfRole) (state : State) (c : Bool) → (is_receiver role && is_session state) ≡ true → (is_receiver role && is_session (cond c Replicating state)) ≡ true
 still role state c r = grind arith
 
 -- the next place is applied: the entry at that place in the session
@@ -208,11 +212,12 @@ keeps_apply p m h next =
     let apart : (t g : ℕ) → on t ≡ true → has x.due t g ≡ false → touches e t g ≡ false = λ t g here none. o.pending.each y.applied e t g here (omega arith) there none in
     let now : SameOutside on x.due z.images x.images = outside_applied on x.due y.images x.images e apart o.covered in
     let covered = both_from on x.due z.due z.images x.images now in
+    let target_away : HasNoPlaces z.due = none_in_left (is_mark e.kind) y.due h.target_away in
+    let reached : is_marked z.state ≡ knows_mark s.mark z.applied = reached_next (is_mark e.kind) y.state s.mark y.applied (h.mark.alone y.applied e there) o.reached in
+    let contents : (t : ℕ) → s.sets t ≡ true → z.contents t ≡ is_marked z.state = λ t is. contents_next (is_mark e.kind) (y.on t) (y.contents t) y.state (o.on t ∙ is) (o.contents t is) in
     let receives : is_receiving z ≡ true → Receives x z s = λ r.
     let pending : IsPending on x.due s.order z.applied = pending_next on x.due s.order y.applied (y.applied + 1) (omega arith) o.pending in
     let before : IsBefore z s = record { each = λ some reached t i here. before_next y s e there o.before some reached t i here } in
-    let reached : is_marked z.state ≡ knows_mark s.mark z.applied = reached_next (is_mark e.kind) y.state s.mark y.applied (h.mark.alone y.applied e there) o.reached in
-    let contents : (t : ℕ) → s.sets t ≡ true → z.contents t ≡ is_marked z.state = λ t is. contents_next (is_mark e.kind) (y.on t) (y.contents t) y.state (o.on t ∙ is) (o.contents t is) in
     let fits : AreFitting s z.images = fitting_all s y.images z.images (λ t _. grown t) o.fits in
     let once : IsOnce z.images s.order z.applied = once_applied y.images s.order y.applied e there in
     assumption (now, pending, before, reached, contents, fits, once, o) in
@@ -225,11 +230,12 @@ keeps_apply p m h next =
       size = λ some. size_then _ _ _ t (k.size some) (size_sym _ _ t (grown t));
       behind = λ some reached i. behind_next x y s e t (h.kept_on t c) there o.before k some reached i;
       there = k.there;
+      contents = contents t (sym (o.on t) ∙ h.kept_on t c) ∙ reached;
     } in
     let messages = faithful_next s y.number y.applied (y.applied + 1) p.messages (omega arith) h.messages in
     let held : AreFaithful s y.number z.applied z.held = faithful_filter s y.number (y.applied + 1) (λ (k : Message). not (nat_eq k.place (y.applied + 1))) y.held (faithful_next s y.number y.applied (y.applied + 1) y.held (omega arith) h.held) in
     let none_held : is_receiving z ≡ false → z.held ≡ [] = λ away. absent (is_receiving z) (still y.role y.state (is_mark e.kind) next.here) away in
-    assumption (sizes, no_target, target_here, applied, none_applied, known, covered, receives, sends, keeps, messages, held, none_held, h)
+    assumption (sizes, no_target, target_here, applied, none_applied, known, covered, target_away, receives, sends, keeps, messages, held, none_held, h)
 
 off : (b : Bool) → (b && false) ≡ false
 off b = grind arith
@@ -273,9 +279,10 @@ keeps_draw_target p number h idle can =
     let receives : is_receiving z ≡ true → Receives x z s = λ r. absent (is_receiving z) r refl in
     let sends : is_sending x ≡ true → x.number ≡ number → Sends x z s = λ a same. absurd (omega (arith, same, can.above_source)) in
     let kept_on : (t : ℕ) → false ≡ true → y.on t ≡ true = λ t k. false_true k in
+    let kept_some : (t : ℕ) → false ≡ true → 0 < number = λ t k. false_true k in
     let keeps : (t : ℕ) → false ≡ true → number ≡ s.number → Keeps x z s t = λ t k same. false_true k in
     let messages = faithful_drawn s y.number number y.applied 0 p.messages above h.messages in
     let held = faithful_none s number 0 in
     let none_held : is_receiving z ≡ false → z.held ≡ [] = λ _. refl in
     let told : AreAnswered x.number number (is_acting x) p.messages = answered_when x.number number (is_acting x) p.messages (λ on. absent (is_acting x) on idle) in
-    assumption (no_target, newest, applied, none_applied, known, receives, sends, kept_on, keeps, messages, held, none_held, told, h)
+    assumption (no_target, newest, applied, none_applied, known, receives, sends, kept_on, kept_some, keeps, messages, held, none_held, told, h)

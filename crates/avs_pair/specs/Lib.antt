@@ -5,3 +5,4 @@ pub mod Prefix
 pub mod Onward
 pub mod Begins
 pub mod Alone
+pub mod HostCover

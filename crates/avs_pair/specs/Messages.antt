@@ -3,8 +3,8 @@ use Rattle.std.specs.Prelude.{◌≡◌, ℕ, ◌-◌, ◌<◌, ◌≤◌, List,
 use Rattle.avs_mirrors.specs.Half.{Message}
 use Rattle.avs_mirrors.specs.Pair.{Session, PairState}
 
--- a message is of no session behind this one; of this one it has the entry at its place; and where it brings a place back to a sender
--- whose receiver has this number and has applied so much, that place was applied
+-- a message is of this session or of an older one; of this one it has the entry at its place; and where it brings a place back to a
+-- sender whose receiver has this number and has applied so much, that place was applied
 pub record IsFaithful (s : Session) (target_number reached : ℕ) (m : Message) : Type 0 where
   pub old : m.number ≤ s.number
   pub some : 0 < m.place

@@ -1,20 +1,13 @@
 -- The machine's steps and the calls of a session.
-use Rattle.std.proofs.Common.{◌≡◌, ℕ, Bool, true, false, refl}
-use Rattle.std.specs.Prelude.{if◌then◌else◌}
-use Rattle.avs_model.specs.declared.half.State.TheVariants.{Replicating as InReplicating}
-use Rattle.avs_mirrors.specs.Half.{SessionRole, Lone, Sender, Receiver, SessionState, Replicating, is_sender, is_receiver}
-use Rattle.avs_sync.specs.Machine.{state_of_half, BeginsAlike, PlacesAlike, MarksAlike, LearnsAlike, LeavesAlike}
+use Rattle.std.proofs.Common.{◌≡◌, true, false, refl}
+use Rattle.avs_mirrors.specs.Half.{HalfRole, Lone, Sender, Receiver, is_sender, is_receiver}
+use Rattle.avs_sync.specs.Machine.{BeginsAlike, PlacesAlike, MarksAlike, LearnsAlike, LeavesAlike}
 
 -- who sends does not receive
-apart : (role : SessionRole) → is_sender role ≡ true → is_receiver role ≡ false
+apart : (role : HalfRole) → is_sender role ≡ true → is_receiver role ≡ false
 apart Lone sends = refl
 apart Sender sends = refl
 apart Receiver sends = cc
-
--- the state of a choice
-state_of_half-if : (b : Bool) (s t : SessionState) → state_of_half (if b then s else t) ≡ (if b then state_of_half s else state_of_half t)
-state_of_half-if true s t = refl
-state_of_half-if false s t = refl
 
 pub begins_alike : BeginsAlike
 begins_alike = record {
@@ -37,7 +30,7 @@ marks_alike = record {
 
 pub learns_alike : LearnsAlike
 learns_alike = record {
-  told = λ x upto reverse mark. rw (state_of_half-if _ Replicating x.state) refl;
+  told = λ x upto reverse mark. refl;
   resumed = λ x upto reverse mark. refl;
 }
 

@@ -1,20 +1,12 @@
 -- The session of a half of the machine, and what the machine's steps make of it.
 use Rattle.std.specs.Prelude.{◌≡◌, ℕ, ◌+◌, Bool, true, false, not, if◌then◌else◌}
 use Rattle.avs_model.specs.declared.entry.Entry.{Entry}
-use Rattle.avs_model.specs.declared.half.State.{State}
-use Rattle.avs_model.specs.declared.half.State.TheVariants.{Logging as InLogging, Syncing as InSyncing, Receiving as InReceiving, Replicating as InReplicating, Queuing as InQueuing}
+use Rattle.avs_model.specs.declared.half.State.TheVariants.{Logging, Replicating, Queuing}
 use Rattle.avs_mirrors.specs.Entries.{is_mark}
 use Rattle.avs_mirrors.specs.Due.{Keys}
-use Rattle.avs_mirrors.specs.Half.{HalfState, SessionState, Logging, Syncing, Receiving, Replicating, Queuing, is_sender, is_receiver, begun_with, asked, with_place, with_copy, with_mark, with_known, resumed_at, left_sender, queued, left_receiver, rejoined, applied_to}
+use Rattle.avs_mirrors.specs.Half.{HalfState, is_sender, is_receiver, begun_with, asked, with_place, with_copy, with_mark, with_known, resumed_at, left_sender, queued, left_receiver, rejoined, applied_to}
 use Rattle.avs_sync.specs.declared.session.Session.{Session}
 use Rattle.avs_sync.specs.Session.{begin, placed, marked, ticked, left}
-
-abbrev pub state_of_half : SessionState → State
-state_of_half Logging = InLogging
-state_of_half Syncing = InSyncing
-state_of_half Receiving = InReceiving
-state_of_half Replicating = InReplicating
-state_of_half Queuing = InQueuing
 
 -- the session of a half, with the direction and the mark that are kept beside it; `last` of a receiver is its applied place
 abbrev pub session_of : HalfState → Bool → ℕ → Session
@@ -25,7 +17,7 @@ session_of h reverse mark = record {
   last = if is_receiver h.role then h.applied else h.last;
   known = h.known;
   mark = mark;
-  state = state_of_half h.state;
+  state = h.state;
 }
 
 -- both halves begin
@@ -47,11 +39,11 @@ pub record MarksAlike : Type 0 where
 -- a sender learns a place, also where the receiver comes back at it
 pub record LearnsAlike : Type 0 where
   pub told : (x : HalfState) (upto : ℕ) (reverse : Bool) (mark : ℕ) → session_of (with_known x upto mark) reverse mark ≡ ticked (session_of x reverse mark) upto
-  pub resumed : (x : HalfState) (upto : ℕ) (reverse : Bool) (mark : ℕ) → session_of (resumed_at x upto) reverse mark ≡ left (ticked (session_of x reverse mark) upto) InReplicating
+  pub resumed : (x : HalfState) (upto : ℕ) (reverse : Bool) (mark : ℕ) → session_of (resumed_at x upto) reverse mark ≡ left (ticked (session_of x reverse mark) upto) Replicating
 
 -- a half leaves to logging or to queuing, or comes back
 pub record LeavesAlike : Type 0 where
-  pub sender : (x : HalfState) (reverse : Bool) (mark : ℕ) → session_of (left_sender x) reverse mark ≡ left (session_of x reverse mark) InLogging
-  pub queuing : (x : HalfState) (reverse : Bool) (mark : ℕ) → session_of (queued x) reverse mark ≡ left (session_of x reverse mark) InQueuing
-  pub receiver : (y : HalfState) (reverse : Bool) (mark : ℕ) → session_of (left_receiver y) reverse mark ≡ left (session_of y reverse mark) InLogging
-  pub back : (y : HalfState) (reverse : Bool) (mark : ℕ) → session_of (rejoined y) reverse mark ≡ left (session_of y reverse mark) InReplicating
+  pub sender : (x : HalfState) (reverse : Bool) (mark : ℕ) → session_of (left_sender x) reverse mark ≡ left (session_of x reverse mark) Logging
+  pub queuing : (x : HalfState) (reverse : Bool) (mark : ℕ) → session_of (queued x) reverse mark ≡ left (session_of x reverse mark) Queuing
+  pub receiver : (y : HalfState) (reverse : Bool) (mark : ℕ) → session_of (left_receiver y) reverse mark ≡ left (session_of y reverse mark) Logging
+  pub back : (y : HalfState) (reverse : Bool) (mark : ℕ) → session_of (rejoined y) reverse mark ≡ left (session_of y reverse mark) Replicating

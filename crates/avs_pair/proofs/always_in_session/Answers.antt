@@ -10,3 +10,6 @@ returns-clause-mark c = λ p r. (reached_sound p r).mark
 
 pub returns-clause-once_more : goal.returns-clause-once_more
 returns-clause-once_more c = λ p r. sound_settled p (reached_sound p r)
+
+pub returns-clause-here : goal.returns-clause-here
+returns-clause-here c = λ p r set. ((reached_sound p r).source_here.within set, (reached_sound p r).target_here.within set)
