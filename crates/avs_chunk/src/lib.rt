@@ -6,7 +6,5 @@ mod copies;
 mod formats;
 mod put;
 mod states;
-#[cfg(test)]
-mod tests;
 
 pub use chunks::Chunks;

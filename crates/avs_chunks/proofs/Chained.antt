@@ -1,22 +1,22 @@
 -- One call on the contents after another.
-use Rattle.std.proofs.Common.{◌≡◌, ◌≢◌, ◌⊎◌, inl, inr, ℕ, ◌+◌, ◌-◌, ◌*◌, ◌/◌, ◌<◌, ◌≤◌, cond, eqb, Bool, IsTrue, Result, Ok, Err, OnOk, OnErr, ◌∙◌, sym, refl, ap, subst, arith}
+use Rattle.std.proofs.Common.{◌≡◌, ◌≢◌, ◌⊎◌, inl, inr, ℕ, ◌+◌, ◌-◌, ◌/◌, ◌<◌, ◌≤◌, Bool, IsTrue, Result, Ok, Err, ◌∙◌, sym, refl, ap, subst, arith}
 use Rattle.std.proofs.lemmas.Bool.{cases_lt, cases_eq, false≢true}
 use Rattle.std.proofs.lemmas.Result.{on_ok_weaker, on_err_weaker}
 use Rattle.avs_seg.specs.declared.fault.Failed.{Failed}
 use Rattle.avs_seg.specs.Segment.{seg_len}
-use Rattle.avs_dev.specs.Seen.{Seen, IsTold}
+use Rattle.avs_dev.specs.Seen.{Seen}
 use Rattle.avs_dev.proofs.Going.{all_then, all_same}
-use Rattle.avs_chunks.specs.States.{SetsOne, AreSame, Splits, SplitsFirst}
-use Rattle.avs_chunks.specs.ChunkSet.{ChunkSet, disk_of, state_of, disk_state, chunks_of, IsAlike, IsKnown, CanSave}
+use Rattle.avs_chunks.specs.States.{SetsOne, AreSame, Splits}
+use Rattle.avs_chunks.specs.ChunkSet.{ChunkSet, state_of, disk_state, chunks_of, IsKnown, CanSave}
 use Rattle.avs_chunks.specs.Disks.{ChunkDisk, Master, Shadow, Bitmap, disk_at, raised, Adds, settle_work, save_work, range_work}
-use Rattle.avs_chunks.specs.Calls.{IsSameShape, KeepsBitmap, KeepsBlocks, KeepsBehind, KeepsSet, Settles, DoesNothing, Saves}
+use Rattle.avs_chunks.specs.Calls.{KeepsSet, Settles, DoesNothing, Saves}
 use Rattle.avs_chunks.specs.Writing.{SavesRange}
 use Rattle.avs_chunks.proofs.Going.{cond_is, cond_not, raised-then, raised_most, raised-none}
 use Rattle.avs_chunks.proofs.Sums.{sum_none, sum_more, sum_one, sum_less}
 
 -- ---- nothing is done
 
-keeps_nothing : {T E : Type 0} (s : ChunkSet) (m : Seen) (x : T) → KeepsSet {E = E} s m (Ok x) s m
+pub keeps_nothing : {T E : Type 0} (s : ChunkSet) (m : Seen) (x : T) → KeepsSet {E = E} s m (Ok x) s m
 keeps_nothing s m x = record {
   shape = record { kind = refl; blocks = refl; there = refl; first = refl; len = refl; live_b = refl; next = refl };
   goes = all_same (disk_at s m) x;

@@ -1,5 +1,5 @@
 -- A chunk that is copied from one disk to another.
-use Rattle.std.proofs.Common.{◌≡◌, ◌≢◌, inl, inr, ℕ, ◌+◌, ◌*◌, ◌/◌, ◌<◌, ◌≤◌, min, cond, eqb, List, length, Result, Ok, Err, IsOk, OnOk, OnErr, refl, sym, ◌∙◌, ap, subst, arith}
+use Rattle.std.proofs.Common.{◌≡◌, ◌≢◌, inl, inr, ℕ, ◌+◌, ◌*◌, ◌/◌, ◌<◌, ◌≤◌, cond, eqb, List, length, Result, Ok, Err, IsOk, OnOk, OnErr, refl, sym, ◌∙◌, ap, subst, arith}
 use Rattle.std.proofs.lemmas.Bool.{cases_eq, false≢true}
 use Rattle.std.proofs.lemmas.Result.{on_ok_weaker, on_err_weaker}
 use Rattle.avs_seg.specs.Image.{Image, range, blocks_of, put, ChangesWithin}
@@ -8,8 +8,8 @@ use Rattle.avs_seg.proofs.Changes.{ChangesWithin-same}
 use Rattle.avs_seg.proofs.Ranges.{range-put}
 use Rattle.avs_dev.specs.Seen.{Seen, IsTold, Reads, Writes}
 use Rattle.avs_dev.specs.Memory.{counted}
-use Rattle.avs_dev.proofs.Going.{goes_ok, goes_err}
-use Rattle.avs_chunks.specs.Disks.{ChunkDisk, Master, Shadow, Bitmap, three, raised, Adds, copy_work}
+use Rattle.avs_dev.proofs.Going.{goes_err}
+use Rattle.avs_chunks.specs.Disks.{three, raised, Adds, copy_work}
 use Rattle.avs_chunks.specs.Steps.{BothGoOn, CopiesSpan, CopiesChunk}
 use Rattle.avs_chunks.proofs.Going.{both_read, both_then, both_turned, both_same, each_disk, cond_is, cond_not, raised-none, raised-some}
 

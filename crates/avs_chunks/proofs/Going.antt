@@ -1,18 +1,14 @@
 -- What stands of the three disks after a call, and how counts of blocks add up.
-use Rattle.std.proofs.Common.{◌≡◌, ◌≢◌, ◌⊎◌, inl, inr, ℕ, ◌+◌, ◌-◌, ◌*◌, ◌/◌, ◌^◌, ◌<◌, ◌≤◌, min, Bool, cond, eqb, List, length, Result, Ok, Err, IsOk, OnOk, OnErr, refl, sym, ◌∙◌, ap, subst, arith}
+use Rattle.std.proofs.Common.{◌≡◌, ◌≢◌, ◌⊎◌, inl, inr, ℕ, ◌+◌, ◌<◌, ◌≤◌, Bool, cond, eqb, Result, Ok, Err, IsOk, refl, sym, ◌∙◌, ap, subst, arith}
 use Rattle.std.proofs.lemmas.Bool.{cases_eq, eq-eqb, false≢true}
 use Rattle.std.proofs.lemmas.Bool.Decides.{eqb_tells}
 use Rattle.std.proofs.lemmas.Result.{on_ok_weaker, on_err_weaker}
-use Rattle.avs_seg.specs.Image.{Image, range, blocks_of, put, ChangesWithin}
-use Rattle.avs_seg.proofs.Bytes.{length-blocks_of}
-use Rattle.avs_seg.proofs.Changes.{ChangesWithin-same}
-use Rattle.avs_seg.proofs.Ranges.{range-put}
-use Rattle.avs_dev.specs.Seen.{Seen, IsTold, Reads, Writes, Lasts, IsSpared, Fails, GoesOn}
+use Rattle.avs_dev.specs.Seen.{Seen, Lasts, IsSpared, GoesOn}
 use Rattle.avs_dev.specs.Memory.{counted}
-use Rattle.avs_dev.specs.Devices.{OneFails, AllGoOn}
-use Rattle.avs_dev.proofs.Going.{lasts_same, lasts_then, spared_same, spared_then, fails_then, all_go}
-use Rattle.avs_chunks.specs.Disks.{ChunkDisk, Master, Shadow, Bitmap, three, raised, Adds, copy_work, settle_work}
-use Rattle.avs_chunks.specs.Steps.{BothGoOn, CopiesSpan}
+use Rattle.avs_dev.specs.Devices.{AllGoOn}
+use Rattle.avs_dev.proofs.Going.{lasts_same, spared_same, all_go}
+use Rattle.avs_chunks.specs.Disks.{ChunkDisk, Master, Shadow, Bitmap, three, raised}
+use Rattle.avs_chunks.specs.Steps.{BothGoOn}
 
 -- ---- names
 

@@ -1,12 +1,12 @@
 -- When both images of a set stay, and what a write to the shadow's disk makes of them.
-use Rattle.std.proofs.Common.{◌≡◌, ◌≢◌, ◌⊎◌, inl, inr, ℕ, ◌+◌, ◌-◌, ◌*◌, ◌/◌, ◌<◌, ◌≤◌, cond, eqb, [], length, refl, sym, ◌∙◌, ap, arith}
+use Rattle.std.proofs.Common.{◌≡◌, ◌≢◌, ◌⊎◌, inl, inr, ℕ, ◌+◌, ◌/◌, ◌<◌, ◌≤◌, cond, eqb, [], length, refl, sym, ◌∙◌, arith}
 use Rattle.std.proofs.lemmas.Bool.{cases_lt, cases_eq}
 use Rattle.std.proofs.lemmas.List.{get_or_past}
 use Rattle.avs_seg.specs.Image.{Block, Image, block_at, range, put, IsMix, ChangesWithin}
-use Rattle.avs_seg.specs.Segment.{seg_count, seg_len}
+use Rattle.avs_seg.specs.Segment.{seg_count}
 use Rattle.avs_seg.proofs.Blocks.{same_images, length-tabulate, block_at-tabulate}
 use Rattle.avs_seg.proofs.Puts.{length-put, put_inside, put_outside}
-use Rattle.avs_seg.proofs.Ranges.{block_at-range, same_ranges}
+use Rattle.avs_seg.proofs.Ranges.{same_ranges}
 use Rattle.avs_chunks.specs.States.{state_on}
 use Rattle.avs_chunks.specs.ChunkSet.{shadow_by, master_by}
 use Rattle.avs_chunks.proofs.Going.{cond_is, cond_not}

@@ -11,3 +11,6 @@ pub mod Staged
 pub mod Readings
 pub mod Chained
 pub mod Written
+pub mod Ahead
+pub mod StageWork
+pub mod WordStates

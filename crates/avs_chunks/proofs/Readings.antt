@@ -1,17 +1,17 @@
 -- Reads of the shadow, part by part, and a copy ahead of a state.
-use Rattle.std.proofs.Common.{◌≡◌, ◌≢◌, inl, inr, ℕ, ◌+◌, ◌*◌, ◌/◌, ◌<◌, ◌≤◌, Bool, true, false, IsTrue, eqb, List, length, Option, Some, None, is_some, Result, Ok, Err, IsOk, OnOk, OnErr, refl, sym, ◌∙◌, ap, subst, arith}
+use Rattle.std.proofs.Common.{◌≡◌, ◌≢◌, inr, ℕ, ◌+◌, ◌*◌, ◌/◌, ◌<◌, ◌≤◌, Bool, true, false, eqb, List, length, Option, Some, None, is_some, Result, Ok, Err, OnOk, refl, sym, ◌∙◌, ap, subst, arith}
 use Rattle.std.proofs.lemmas.Bool.{false≢true, eqb-true, eq-eqb}
 use Rattle.std.proofs.lemmas.Result.{on_ok_weaker}
-use Rattle.avs_seg.specs.Image.{Image, block_at, range, blocks_of}
+use Rattle.avs_seg.specs.Image.{range, blocks_of}
 use Rattle.avs_seg.specs.Segment.{seg_len}
 use Rattle.avs_dev.specs.Seen.{Seen, IsTold, Reads, GoesOn}
 use Rattle.avs_dev.specs.Devices.{AllGoOn}
 use Rattle.avs_dev.proofs.Going.{all_go, all_same, all_err}
 use Rattle.avs_flip.specs.Areas.{live}
-use Rattle.avs_chunks.specs.ChunkSet.{ChunkSet, disk_of, state_of, disk_state, chunks_of, shadow_image, IsKnown, IsOnePlace}
+use Rattle.avs_chunks.specs.ChunkSet.{ChunkSet, disk_of, state_of, chunks_of, shadow_image, IsKnown, IsOnePlace}
 use Rattle.avs_chunks.specs.Disks.{ChunkDisk, Master, Shadow, Bitmap, three, disk_at}
 use Rattle.avs_chunks.specs.Steps.{ReadsOne}
-use Rattle.avs_chunks.specs.Calls.{MaySettle, ReadsShadow, CopiesAhead}
+use Rattle.avs_chunks.specs.Calls.{ReadsShadow, CopiesAhead}
 use Rattle.avs_chunks.proofs.Going.{master_or, shadow_goes, both_go}
 use Rattle.avs_chunks.proofs.Copied.{Copied}
 use Rattle.avs_chunks.proofs.Images.{range_alone, range_there}

@@ -1,23 +1,22 @@
 -- A chunk of a set is settled: the copy, and then the state.
-use Rattle.std.proofs.Common.{◌≡◌, ◌≢◌, ◌⊎◌, inl, inr, ℕ, ◌+◌, ◌-◌, ◌*◌, ◌/◌, ◌<◌, ◌≤◌, Bool, cond, eqb, List, length, Option, is_some, true, false, Result, Ok, Err, OnOk, OnErr, ◌∙◌, sym, refl, ap, subst, arith}
+use Rattle.std.proofs.Common.{◌≡◌, ◌≢◌, ◌⊎◌, inl, inr, ℕ, ◌+◌, ◌-◌, ◌*◌, ◌/◌, ◌<◌, ◌≤◌, Bool, cond, eqb, List, Option, is_some, true, false, Result, Ok, Err, OnOk, OnErr, ◌∙◌, sym, refl, ap, subst, arith}
 use Rattle.std.proofs.lemmas.Bool.{cases_lt, cases_eq}
 use Rattle.std.proofs.lemmas.Result.{on_ok_weaker, on_err_weaker}
 use Rattle.avs_seg.specs.Image.{Image, Block, block_at, range, ChangesWithin}
-use Rattle.avs_seg.specs.Segment.{seg_count, seg_len}
+use Rattle.avs_seg.specs.Segment.{seg_len}
 use Rattle.avs_seg.proofs.Blocks.{same_place}
 use Rattle.avs_seg.proofs.Exits.{either}
 use Rattle.avs_seg.proofs.Ranges.{block_at-range}
 use Rattle.avs_dev.specs.Seen.{Seen, IsTold}
 use Rattle.avs_dev.specs.Memory.{counted}
 use Rattle.avs_dev.specs.Devices.{AllGoOn}
-use Rattle.avs_dev.proofs.Going.{all_then, all_err, goes_err}
+use Rattle.avs_dev.proofs.Going.{all_then, all_err}
 use Rattle.avs_flip.specs.Areas.{Areas, live, live_from}
-use Rattle.avs_model.specs.declared.shadow.Kind.TheVariants.{Ind}
 use Rattle.avs_chunks.specs.States.{state_in, state_on, SetsOne, AreSame}
 use Rattle.avs_chunks.specs.ChunkSet.{ChunkSet, disk_of, state_of, disk_state, chunks_of, shadow_block, master_block, IsAlike, IsKnown, IsClean, IsCleanOnDisk}
-use Rattle.avs_chunks.specs.Disks.{ChunkDisk, Master, Shadow, Bitmap, three, disk_at, raised, Adds, copy_work, settle_work}
+use Rattle.avs_chunks.specs.Disks.{ChunkDisk, Master, Shadow, three, disk_at, raised, Adds, copy_work, settle_work}
 use Rattle.avs_chunks.specs.Steps.{PutsState, HasStates, SetsState}
-use Rattle.avs_chunks.specs.Calls.{IsSameShape, KeepsBitmap, KeepsBlocks, KeepsBehind, KeepsSet, Remembers, MaySettle, Settles}
+use Rattle.avs_chunks.specs.Calls.{KeepsBitmap, KeepsBlocks, KeepsBehind, KeepsSet, MaySettle, Settles}
 use Rattle.avs_chunks.proofs.Going.{both_go, bitmap_goes, cond_is, cond_not, raised_most, each_disk}
 use Rattle.avs_chunks.proofs.Copied.{Copied}
 

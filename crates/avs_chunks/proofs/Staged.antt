@@ -1,5 +1,5 @@
 -- States are staged part by part.
-use Rattle.std.proofs.Common.{◌≡◌, ◌≢◌, ◌⊎◌, inl, inr, ℕ, ◌+◌, ◌*◌, ◌/◌, ◌%◌, ◌<◌, ◌≤◌, Bool, true, false, List, [], length, set, take, drop, Result, Ok, Err, OnOk, OnErr, ◌∙◌, sym, refl, ap, subst, arith}
+use Rattle.std.proofs.Common.{◌≡◌, ◌≢◌, ◌⊎◌, inl, inr, ℕ, ◌+◌, ◌*◌, ◌/◌, ◌%◌, ◌<◌, ◌≤◌, List, [], length, set, take, drop, Result, Ok, Err, ◌∙◌, sym, refl, ap, subst, arith}
 use Rattle.std.proofs.lemmas.Bool.{cases_lt}
 use Rattle.std.proofs.lemmas.Grind.{get_or-set_at}
 use Rattle.std.proofs.lemmas.List.{get_or-set_other}
@@ -8,18 +8,15 @@ use Rattle.avs_seg.specs.declared.fault.Failed.{Failed}
 use Rattle.avs_seg.specs.Image.{Image, Block, block_at}
 use Rattle.avs_seg.proofs.Exits.{ok_exit}
 use Rattle.avs_seg.proofs.Ranges.{length-range}
-use Rattle.avs_dev.specs.Seen.{Seen, IsTold}
+use Rattle.avs_dev.specs.Seen.{IsTold}
 use Rattle.avs_dev.specs.Memory.{counted}
-use Rattle.avs_dev.proofs.Going.{goes_same, goes_then, goes_err}
-use Rattle.avs_flip.specs.Areas.{Areas, live, staged}
+use Rattle.avs_dev.proofs.Going.{goes_same, goes_then}
+use Rattle.avs_flip.specs.Areas.{Areas, staged}
 use Rattle.avs_flip.specs.Changes.{Stages}
-use Rattle.avs_model.specs.declared.shadow.Kind.TheVariants.{Ind, Dep, Compact}
-use Rattle.avs_chunks.specs.declared.staging.Update.{Update}
-use Rattle.avs_chunks.specs.declared.staging.Update.TheVariants.{ToShadow, ToMaster}
 use Rattle.avs_chunks.specs.States.{state_in, state_on}
-use Rattle.avs_chunks.specs.ChunkSet.{ChunkSet, state_of, next_of, staged_state, IsClean}
+use Rattle.avs_chunks.specs.ChunkSet.{ChunkSet, next_of, staged_state}
 use Rattle.avs_chunks.specs.Disks.{raised}
-use Rattle.avs_chunks.specs.Staging.{updated, AreSetTo, KeepsLive, StagesNext, StagesParts}
+use Rattle.avs_chunks.specs.Staging.{AreSetTo, KeepsLive, StagesNext, StagesParts}
 use Rattle.avs_chunks.proofs.Quarters.{state_of_block}
 use Rattle.avs_chunks.proofs.Going.{raised-then, raised_most}
 

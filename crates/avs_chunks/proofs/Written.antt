@@ -1,20 +1,19 @@
 -- A write to the shadow: its chunks are saved, and then its range is written.
-use Rattle.std.proofs.Common.{◌≡◌, inl, inr, ℕ, ◌+◌, ◌-◌, ◌*◌, ◌/◌, ◌<◌, ◌≤◌, List, length, Option, is_some, Bool, IsTrue, Some, None, Result, Ok, Err, OnOk, OnErr, refl, sym, ◌∙◌, ap, subst, arith}
+use Rattle.std.proofs.Common.{◌≡◌, inr, ℕ, ◌+◌, ◌-◌, ◌*◌, ◌/◌, ◌<◌, ◌≤◌, List, length, Option, is_some, IsTrue, Some, None, Result, Ok, Err, refl, sym, ◌∙◌, ap, subst, arith}
 use Rattle.std.proofs.lemmas.Bool.{false≢true}
 use Rattle.std.proofs.lemmas.Result.{on_ok_weaker, on_err_weaker}
 use Rattle.avs_seg.specs.Image.{Image, put, blocks_of, IsMix}
 use Rattle.avs_seg.specs.Segment.{first_segment, touch_count}
 use Rattle.avs_seg.proofs.Bytes.{length-blocks_of}
-use Rattle.avs_seg.proofs.Exits.{ok_exit, err_exit}
 use Rattle.avs_seg.proofs.Mixes.{IsMix-same}
 use Rattle.avs_dev.specs.Seen.{Seen, IsTold, Writes}
 use Rattle.avs_dev.proofs.Going.{all_then, all_err}
 use Rattle.avs_flip.specs.Areas.{live}
 use Rattle.avs_chunks.specs.States.{state_on, Splits, SplitsFirst}
-use Rattle.avs_chunks.specs.ChunkSet.{ChunkSet, shadow_by, master_by, disk_of, disk_state, chunks_of, shadow_image, master_image, IsAlike, IsKnown}
+use Rattle.avs_chunks.specs.ChunkSet.{ChunkSet, shadow_by, master_by, disk_of, disk_state, chunks_of, shadow_image, master_image, IsKnown}
 use Rattle.avs_chunks.specs.Disks.{ChunkDisk, Master, Shadow, Bitmap, disk_at, raised, Adds, range_work, write_work}
-use Rattle.avs_chunks.specs.Calls.{KeepsBlocks, KeepsBitmap, KeepsBehind}
-use Rattle.avs_chunks.specs.Writing.{SavesRange, chunks_end, KeepsMaster, WritesAll, StopsWrite, WritesShadow}
+use Rattle.avs_chunks.specs.Calls.{KeepsBlocks}
+use Rattle.avs_chunks.specs.Writing.{SavesRange, chunks_end, WritesShadow}
 use Rattle.avs_chunks.proofs.Going.{each_disk, shadow_goes, raised-some}
 use Rattle.avs_chunks.proofs.Images.{same_shadow, same_master, shadow-put, shadow-mix, master-kept, alike-kept}
 use Rattle.avs_chunks.proofs.Chained.{adds_then, adds_as, adds_wider}

@@ -100,7 +100,7 @@ pub record HasLabel (s : ChunkSet) : Type 0 where
 
 -- the states behind the last chunk are zeros on the disk
 pub record IsCleanOnDisk (s : ChunkSet) : Type 0 where
-  pub each : (c : ℕ) → chunks_of s ≤ c → disk_state s c ≡ 0
+  pub each : (c : ℕ) → chunks_of s ≤ c → disk_state s c ≡ on_master
 
 -- no chunk of an independent set stands on one of the disks alone
 pub record IsSettled (s : ChunkSet) : Type 0 where
@@ -117,7 +117,7 @@ pub record IsOnePlace (s : ChunkSet) (at len : ℕ) : Type 0 where
 
 -- the states behind the last chunk are zeros
 pub record IsClean (memory : List ℕ) (chunks : ℕ) : Type 0 where
-  pub each : (c : ℕ) → chunks ≤ c → state_in memory c ≡ 0
+  pub each : (c : ℕ) → chunks ≤ c → state_in memory c ≡ on_master
 
 -- what a set keeps, whatever fails
 pub record IsKept (shadow : Option Seen) (areas : Areas) (memory next buffer : List ℕ) (blocks : ℕ) : Type 0 where

@@ -1,5 +1,5 @@
 -- Copy steps: the least chunk that stands on one disk alone is copied to the other.
-use Rattle.std.specs.Prelude.{◌≡◌, ℕ, ◌<◌, ◌==◌, Bool, true, false, ◌&&◌, ◌||◌, Option, None, Some, IfSome, IfNone, Result, Ok, IfOk, filter, length}
+use Rattle.std.specs.Prelude.{◌≡◌, ℕ, ◌<◌, ◌==◌, Bool, true, false, ◌&&◌, ◌||◌, Option, None, Some, IfSome, IfNone, Result, IfOk, filter, length}
 use Rattle.std.specs.List.{range_with_len}
 use Rattle.avs_dev.specs.Seen.{Seen}
 use Rattle.avs_model.specs.declared.shadow.Kind.{Kind}

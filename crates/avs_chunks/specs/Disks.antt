@@ -1,8 +1,8 @@
 -- The three disks that a call works on, each by its name, and the blocks that it writes on them.
-use Rattle.std.specs.Prelude.{◌≡◌, ℕ, ◌+◌, ◌≤◌, ◌==◌, if◌then◌else◌, Result, OnOk, OnErr}
+use Rattle.std.specs.Prelude.{ℕ, ◌+◌, ◌==◌, if◌then◌else◌}
 use Rattle.avs_seg.specs.Segment.{seg_len}
 use Rattle.avs_dev.specs.Seen.{Seen}
-use Rattle.avs_dev.specs.Memory.{counted}
+pub use Rattle.avs_dev.specs.Devices.{raised, Adds}
 use Rattle.avs_chunks.specs.States.{on_master, split, on_shadow, sum_from}
 use Rattle.avs_chunks.specs.ChunkSet.{ChunkSet, disk_of, state_of}
 
@@ -20,15 +20,6 @@ three master shadow bitmap Bitmap = bitmap
 -- a disk of a set with its master
 abbrev pub disk_at : ChunkSet → Seen → ChunkDisk → Seen
 disk_at s m = three m (disk_of s.shadow) s.areas.disk
-
--- a count of written blocks, raised
-abbrev pub raised : ℕ → ℕ → ℕ
-raised written more = if more == 0 then written else counted written more
-
--- so many blocks are written on each disk, and at most so many where the call fails
-pub record Adds {T E : Type 0} (old : ChunkDisk → Seen) (work : ChunkDisk → ℕ) (result : Result T E) (new : ChunkDisk → Seen) : Type 0 where
-  pub done : OnOk result ((d : ChunkDisk) → (new d).written ≡ raised (old d).written (work d))
-  pub most : OnErr result ((d : ChunkDisk) → (new d).written ≤ (old d).written + work d)
 
 -- the blocks of a chunk in a state, of so many blocks, that is copied where its contents stand on one disk alone
 abbrev pub copy_work : ℕ → ℕ → ChunkDisk → ℕ

@@ -9,3 +9,4 @@ pub mod Staging
 pub mod Copying
 pub mod Writing
 pub mod Arming
+pub mod Working

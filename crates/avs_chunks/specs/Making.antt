@@ -1,5 +1,5 @@
 -- How a set is made on disks and found again, and why not.
-use Rattle.std.specs.Prelude.{◌≡◌, ◌⊎◌, ℕ, ◌+◌, ◌*◌, ◌<◌, ◌≤◌, Bool, false, IsTrue, List, ◌∷◌, length, Option, Some, Result, OnOk, OnErr}
+use Rattle.std.specs.Prelude.{◌≡◌, ◌⊎◌, ℕ, ◌+◌, ◌*◌, ◌<◌, ◌≤◌, Bool, false, List, ◌∷◌, length, Option, Some, Result, OnOk, OnErr}
 use Rattle.avs_seg.specs.Image.{Image, Block, block_at, put, blank, IsMix}
 use Rattle.avs_seg.specs.Segment.{seg_count}
 use Rattle.avs_seg.specs.Causes.{Rose}

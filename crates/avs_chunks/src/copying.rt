@@ -1,11 +1,12 @@
 // Copy steps, and how many of them are left.
-ghost use Rattle.std.specs.Prelude.{◌≡◌, ◌*◌, ◌≤◌, ◌^◌, IsTrue, is_some, length};
+ghost use Rattle.std.specs.Prelude.{◌≡◌, ◌*◌, ◌/◌, ◌<◌, ◌≤◌, ◌^◌, IsTrue, is_some, length};
 ghost use Rattle.avs_chunks.specs.States.{code_of, state_in};
 ghost use Rattle.avs_chunks.specs.ChunkSet.{chunks_of, state_of};
 ghost use Rattle.avs_chunks.specs.Copying.{FindsDue, CopiesOne, is_independent, is_due, back_of, left_of, moved_of};
 
 use crate::chunks::Chunks;
 use crate::states::{ChunkState, count_in, state_in};
+use crate::words::{WORD, can_pass};
 use avs_dev::Disk;
 use avs_model::Kind;
 use avs_seg::{Failed, seg_count};
@@ -31,14 +32,21 @@ fn is_due(independent: bool, state: ChunkState) -> bool
     }
 }
 
-// The least chunk below an end that is to be copied.
+// The least chunk below an end that is to be copied. Words of chunks of which none is are passed at once.
 fn first_due(bytes: &[u8], end: u32, independent: bool) -> Option<u32>
-    requires { end ≤ 4 * length bytes.now }
+    requires inside { end ≤ 4 * length bytes.now }
+    requires whole { 8 * (length bytes.now / 8) ≡ length bytes.now }
+    requires small { end < 2 ^ 31 }
     ensures { FindsDue (state_in bytes.now) independent end result }
 {
-    for chunk in 0..end {
-        if is_due(independent, state_in(bytes, chunk)) {
+    let mut chunk = 0;
+    while chunk < end {
+        if can_pass(bytes, chunk, independent) {
+            chunk += WORD;
+        } else if is_due(independent, state_in(bytes, chunk)) {
             return Some(chunk);
+        } else {
+            chunk += 1;
         }
     }
     None

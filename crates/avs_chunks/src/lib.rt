@@ -6,13 +6,17 @@ mod chunks;
 mod copies;
 mod copying;
 mod formats;
+mod laws;
 mod parts;
 mod put;
 mod reading;
 mod settling;
+mod staged_parts;
 mod staging;
 mod states;
+mod words;
 mod writing;
 
 pub use chunks::Chunks;
+pub use laws::work_is_that_of_stages;
 pub use states::ChunkState;

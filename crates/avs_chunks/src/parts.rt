@@ -14,8 +14,8 @@ use avs_seg::{Failed, seg_count};
 // How many bytes have a bit for each chunk of a part.
 const BITS: usize = 256;
 
-// Whether a chunk of a part is told.
-fn has_bit(bits: &[u8; BITS], place: u32) -> bool
+/// Whether a chunk of a part is told.
+pub(crate) fn has_bit(bits: &[u8; BITS], place: u32) -> bool
     requires { place < 2048 }
     ensures { result ≡ bit_of bits.now place }
 {

@@ -1,4 +1,4 @@
-use Rattle.std.proofs.Common.{◌≡◌, ℕ, Bool, cond, eqb, ◌∙◌, ap, arith}
+use Rattle.std.proofs.Common.{◌≡◌, Bool, cond, eqb, ◌∙◌, ap, arith}
 use Rattle.avs_chunks.specs.States.{state_in, code_of}
 use Rattle.avs_chunks.proofs.Counts.{count_more, one_most}
 use Rattle.avs_chunks.proofs.states.count_in.Goals as goal

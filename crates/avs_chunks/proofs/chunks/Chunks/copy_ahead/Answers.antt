@@ -1,4 +1,4 @@
-use Rattle.std.proofs.Common.{rules, ◌≡◌, ◌*◌, ℕ, refl}
+use Rattle.std.proofs.Common.{rules, ◌*◌, refl}
 use Rattle.std.specs.Option.{option_map}
 use Rattle.avs_seg.specs.Segment.{seg_len}
 use Rattle.avs_chunks.specs.ChunkSet.{ChunkSet}

@@ -1,6 +1,6 @@
-use Rattle.std.proofs.Common.{rules, ◌≡◌, ◌+◌, ◌*◌, ◌/◌, ℕ, length, length-take, length-drop, Ok, refl, ap, sym, subst, ◌∙◌, arith}
+use Rattle.std.proofs.Common.{◌≡◌, ◌+◌, ◌*◌, ◌/◌, ℕ, length, length-take, length-drop, Ok, refl, ap, sym, subst, ◌∙◌, arith}
 use Rattle.avs_seg.specs.declared.fault.Failed.{Failed}
-use Rattle.avs_seg.specs.Image.{Image, range}
+use Rattle.avs_seg.specs.Image.{range}
 use Rattle.avs_seg.proofs.Fills.{ShowsFirst, shows_more, shows_all}
 use Rattle.avs_dev.specs.Seen.{Seen, IsTold}
 use Rattle.avs_chunks.specs.ChunkSet.{ChunkSet, IsKnown, shadow_image}

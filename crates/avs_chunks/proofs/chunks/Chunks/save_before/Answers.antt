@@ -1,8 +1,7 @@
-use Rattle.std.proofs.Common.{rules, ◌≡◌, ◌≢◌, ℕ, List, eqb, Bool, true, false, ap, sym, refl, subst, ◌∙◌}
-use Rattle.std.proofs.lemmas.Bool.{eqb-true, eq-eqb, false≢true}
+use Rattle.std.proofs.Common.{◌≡◌, ℕ, List, ap, sym, refl, ◌∙◌}
+use Rattle.std.proofs.lemmas.Bool.{eqb-true}
 use Rattle.avs_chunks.specs.States.{state_in}
 use Rattle.avs_chunks.specs.ChunkSet.{ChunkSet, state_of}
-use Rattle.avs_chunks.proofs.Settled.{may_split}
 use Rattle.avs_chunks.proofs.chunks.Chunks.save_before.Goals as goal
 
 pub returns-then-is_in : goal.returns-then-is_in

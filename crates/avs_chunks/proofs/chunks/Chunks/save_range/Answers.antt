@@ -1,4 +1,4 @@
-use Rattle.std.proofs.Common.{rules, ◌≡◌, ◌<◌, ◌+◌, ℕ, Ok, Err, subst, sym, ◌∙◌, refl, arith}
+use Rattle.std.proofs.Common.{rules, ◌≡◌, ◌<◌, ◌+◌, ℕ, Ok, Err, subst, sym, ◌∙◌, arith}
 use Rattle.avs_seg.specs.declared.fault.Failed.{Failed}
 use Rattle.avs_chunks.specs.ChunkSet.{chunks_of}
 use Rattle.avs_chunks.specs.Disks.{Master}

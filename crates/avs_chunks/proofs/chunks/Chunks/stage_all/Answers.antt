@@ -1,4 +1,4 @@
-use Rattle.std.proofs.Common.{rules, ◌≡◌, ◌<◌, ◌+◌, ℕ, Ok, Err, ap, subst, arith}
+use Rattle.std.proofs.Common.{rules, ◌≡◌, ◌<◌, ℕ, Ok, Err, ap, subst, arith}
 use Rattle.avs_seg.specs.declared.fault.Failed.{Failed}
 use Rattle.avs_chunks.specs.States.{area_len}
 use Rattle.avs_chunks.specs.ChunkSet.{ChunkSet, chunks_of, state_of}

@@ -1,9 +1,9 @@
-use Rattle.std.proofs.Common.{rules, ◌≡◌, ◌≤◌, ◌/◌, ℕ, length, Bool, Ok, Err, IsTrue, is_some, sym, ap, subst}
+use Rattle.std.proofs.Common.{rules, ◌≡◌, ◌≤◌, ℕ, Bool, Ok, Err, IsTrue, is_some, sym, subst}
 use Rattle.std.specs.Option.{option_map}
 use Rattle.avs_seg.specs.declared.fault.Failed.{Failed}
 use Rattle.avs_seg.specs.Segment.{first_segment}
-use Rattle.avs_chunks.specs.ChunkSet.{ChunkSet, disk_of}
-use Rattle.avs_chunks.specs.Writing.{SavesRange, chunks_end}
+use Rattle.avs_chunks.specs.ChunkSet.{disk_of}
+use Rattle.avs_chunks.specs.Writing.{SavesRange}
 use Rattle.avs_chunks.proofs.Written.{writes_saves, writes_put, room_there}
 use Rattle.avs_chunks.proofs.chunks.Chunks.write.Goals as goal
 

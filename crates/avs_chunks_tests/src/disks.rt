@@ -1,0 +1,141 @@
+// Disks that are taken, given back and refused.
+
+use crate::plain::BLOCKS;
+use crate::sets::{
+    again, bitmap_blocks, byte_in, copy, disk, has, made, moved_part, put_blocks, read, same,
+    sizes, write,
+};
+use avs_chunks::Chunks;
+use avs_dev::{Back, Closed2, Disk, MemDisk, Why};
+use avs_model::Kind;
+use avs_seg::BLOCK;
+use std::alloc::Global;
+use std::process::Abort;
+
+fn take(rt: &impl Abort, set: &mut Chunks<MemDisk>) -> MemDisk {
+    match set.take_shadow() {
+        Some(shadow) => shadow,
+        None => panic!(rt; "a shadow"),
+    }
+}
+
+fn give(rt: &impl Abort, set: &mut Chunks<MemDisk>, shadow: MemDisk) {
+    assert!(rt; !set.has_shadow() && set.blocks() <= shadow.blocks());
+    set.give_shadow(shadow);
+}
+
+fn sees(rt: &impl Abort, set: &mut Chunks<MemDisk>, master: &mut MemDisk, at: u32, want: u8) {
+    let mut block = [0; BLOCK];
+    read(rt, set, master, at, &mut block);
+    same(rt, byte_in(rt, &block, 0), want);
+}
+
+fn copies(rt: &impl Abort, set: &mut Chunks<MemDisk>, master: &mut MemDisk, want: Option<u32>) {
+    same(rt, copy(rt, set, master).ok(), Some(want));
+}
+
+// A set of three chunks of which the second is split, and the others are the same on both disks.
+fn settled(rt: &impl Abort, alloc: Global, master: &mut MemDisk) -> Chunks<MemDisk> {
+    let mut set = made(rt, alloc, Kind::Ind, BLOCKS);
+    assert!(rt; write(rt, &mut set, master, 70, &[0x11; BLOCK]));
+    copies(rt, &mut set, master, Some(0));
+    copies(rt, &mut set, master, Some(2));
+    copies(rt, &mut set, master, None);
+    set
+}
+
+#[test]
+fn a_shadow_is_taken_once_and_given_back(rt: HostRuntime) {
+    let mut master = disk(&rt, rt.alloc(), BLOCKS, &[]);
+    let mut set = settled(&rt, rt.alloc(), &mut master);
+    let mut shadow = take(&rt, &mut set);
+    assert!(&rt; set.take_shadow().is_none());
+    assert!(&rt; put_blocks(&rt, &mut shadow, 3, &[0x22; BLOCK]));
+    let mut set = again(&rt, rt.alloc(), set, false);
+    same(&rt, sizes(&set), (0, 0, 1));
+    same(&rt, has(&moved_part(&rt, &set, 0), 1), true);
+    same(&rt, set.written(0), Some(6));
+    same(&rt, set.written(1), None);
+    give(&rt, &mut set, shadow);
+    sees(&rt, &mut set, &mut master, 3, 0x22);
+    sees(&rt, &mut set, &mut master, 70, 0x11);
+    same(&rt, set.written(0), Some(138));
+    same(&rt, set.written(1), Some(6));
+}
+
+#[test]
+fn states_are_staged_and_turned_without_the_shadow(rt: HostRuntime) {
+    let mut master = disk(&rt, rt.alloc(), BLOCKS, &[]);
+    let mut set = settled(&rt, rt.alloc(), &mut master);
+    let shadow = take(&rt, &mut set);
+    assert!(&rt; set.turn_to_shadow(false).is_ok());
+    set.turn();
+    same(&rt, sizes(&set), (1, 0, 0));
+    give(&rt, &mut set, shadow);
+    sees(&rt, &mut set, &mut master, 70, 0);
+    copies(&rt, &mut set, &mut master, Some(1));
+    copies(&rt, &mut set, &mut master, None);
+}
+
+fn why_not(rt: &impl Abort, made: Result<Chunks<MemDisk>, Closed2<MemDisk>>) -> Why {
+    match made {
+        Ok(_) => panic!(rt; "it was made"),
+        Err(back) => back.why,
+    }
+}
+
+#[test]
+fn disks_that_are_small_or_fail_are_handed_back(rt: HostRuntime) {
+    let size = |need, have| Why::Size { need, have };
+    for (blocks, states, fails, want) in [
+        (135, 3, 0, size(136, 135)),
+        (136, 2, 0, size(3, 2)),
+        (136, 3, 1, Why::Fault),
+        (136, 3, 2, Why::Fault),
+        (136, 3, 3, Why::Fault),
+    ] {
+        let shadow = disk(&rt, rt.alloc(), blocks, &[]);
+        let bitmap = disk(&rt, rt.alloc(), states, &[fails]);
+        let made = Chunks::make(rt.alloc(), Kind::Dep, shadow, bitmap, BLOCKS);
+        same(&rt, why_not(&rt, made), want);
+    }
+}
+
+fn why_lost(
+    rt: &impl Abort,
+    loaded: Result<Chunks<MemDisk>, Back<(Option<MemDisk>, MemDisk), Why>>,
+) -> Why {
+    match loaded {
+        Ok(_) => panic!(rt; "it was found"),
+        Err(back) => back.why,
+    }
+}
+
+// A bitmap whose label has another byte at a place, which is a field of it.
+fn altered(rt: &impl Abort, alloc: Global, place: usize, field: u32) {
+    let (shadow, mut bitmap) = made(rt, alloc, Kind::Dep, BLOCKS).into_disks();
+    let mut label = [0; BLOCK];
+    assert!(rt; 0 < bitmap.blocks() && place < BLOCK);
+    assert!(rt; bitmap.read(0, &mut label).is_ok());
+    label[place] = label[place].wrapping_add(1);
+    assert!(rt; put_blocks(rt, &mut bitmap, 0, &label));
+    let loaded = Chunks::load(alloc, Kind::Dep, shadow, bitmap, BLOCKS, false);
+    same(rt, why_lost(rt, loaded), Why::BadRecord(field));
+}
+
+#[test]
+fn a_label_of_another_set_is_refused_by_its_field(rt: HostRuntime) {
+    same(&rt, bitmap_blocks(BLOCKS), 3);
+    for (place, field) in [
+        (0, 0),
+        (11, 1),
+        (15, 2),
+        (19, 3),
+        (23, 4),
+        (31, 5),
+        (32, 6),
+        (511, 6),
+    ] {
+        altered(&rt, rt.alloc(), place, field);
+    }
+}
