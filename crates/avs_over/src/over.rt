@@ -1,5 +1,5 @@
 // An overflow volume over its disk.
-ghost use Rattle.std.specs.Prelude.{◌≡◌, ◌/◌, ◌-◌, ◌<◌, ◌≤◌, IfOk, IfErr, None, length, replicate};
+ghost use Rattle.std.specs.Prelude.{◌≡◌, ◌/◌, ◌-◌, ◌<◌, ◌≤◌, ◌^◌, IfOk, IfErr, None, length, replicate};
 ghost use Rattle.avs_dev.specs.Seen.{IsTold};
 ghost use Rattle.avs_over.specs.Slots.{AreApart, AreGiven, slots_of};
 ghost use Rattle.avs_over.specs.Over.{IsInSlot, HasLabel, Makes, MakeRefused, Loads, LoadRefused, Takes, Releases, ReadsSlot, WritesSlot, ArmsDisk, IsKept, slots, used, written_of};
@@ -87,7 +87,8 @@ impl<D: Disk> Over<D> {
 
     /// How many slots there are.
     pub fn slots(&self) -> u32
-        ensures { result ≡ slots self.now }
+        ensures is { result ≡ slots self.now }
+        ensures few { result < 2 ^ 26 }
     {
         self.owners.len() as u32
     }

@@ -1,0 +1,248 @@
+-- The label and the areas of a bitmap, written and read.
+use Rattle.std.proofs.Common.{◌≡◌, ◌≢◌, ◌⊎◌, inl, inr, ℕ, suc, ◌+◌, ◌-◌, ◌*◌, ◌/◌, ◌%◌, ◌^◌, ◌<◌, ◌≤◌, Bool, false, cond, eqb, List, [], ◌∷◌, length, replicate, Option, Some, Result, Ok, Err, refl, sym, ◌∙◌, ap, subst, arith}
+use Rattle.avs_seg.specs.Image.{Block, Image, block_at, range, put, blocks_of, blank, zero_block, IsMix}
+use Rattle.avs_seg.specs.Segment.{seg_count}
+use Rattle.avs_seg.proofs.Blocks.{same_images, length-tabulate, block_at-tabulate, length-blank, block_at-blank, same_place}
+use Rattle.avs_seg.proofs.Bytes.{blocks_of_one, blocks_of_zeros}
+use Rattle.avs_seg.proofs.Puts.{put_none, put_inside}
+use Rattle.avs_seg.proofs.Ranges.{length-range, block_at-range, range_all, put_more}
+use Rattle.avs_seg.proofs.Mixes.{mix_more}
+use Rattle.avs_dev.specs.Seen.{Seen, IsTold, Writes, Lasts, IsSpared}
+use Rattle.avs_dev.specs.Memory.{counted}
+use Rattle.avs_flip.specs.Areas.{live, live_from}
+use Rattle.avs_code.specs.Label.{IsLabel}
+use Rattle.avs_compact.specs.Entries.{entry_in, entry_on, state_by, slot_by, area_len, blocks_for}
+use Rattle.avs_compact.specs.CompactSet.{CompactSet, compact_label, own_slots, entry_of, disk_entry, shadow_by, master_by, in_slot, HasLabel}
+use Rattle.avs_compact.specs.Slots.{IsClean, AreEntries}
+use Rattle.avs_compact.specs.Disks.{raised}
+use Rattle.avs_compact.specs.Making.{Fits, Formats, Makes, Loads, HasArea, areas_on, own_of, formatted}
+use Rattle.avs_compact.proofs.EntryBytes.{entry_on_blocks, entry_in-zeros}
+use Rattle.avs_compact.proofs.Counts.{cond_is, cond_not, raised-some, raised-then, raised_most}
+use Rattle.avs_dev.proofs.Going.{lasts_same, lasts_then, spared_same, spared_then, fails_then}
+
+-- ---- blocks that are read
+
+pub read_block : (img : Image) (out : List ℕ) → length out ≡ 512 → blocks_of out ≡ range img 0 (length out / 512) → block_at img 0 ≡ out
+read_block img out one shown =
+    sym (block_at-range img 0 (length out / 512) 0 (omega (arith, one)))
+    ∙ ap (λ (l : Image). block_at l 0) (sym shown ∙ blocks_of_one out one)
+
+-- the first block of the live area
+pub first_of : (d : Seen) (blocks : ℕ) (live_b : Bool) → cond live_b (1 + area_len (seg_count blocks)) 1 ≡ live_from (areas_on d blocks live_b)
+first_of d blocks live_b = refl
+
+pub HasArea-read : (d : Seen) (blocks from : ℕ) (live_b : Bool) (out : List ℕ) → from ≡ live_from (areas_on d blocks live_b) → length out ≡ 512 * area_len (seg_count blocks) → blocks_of out ≡ range d.image from (length out / 512) → HasArea (live (areas_on d blocks live_b)) (seg_count blocks) out
+unfolding live
+HasArea-read d blocks from live_b out is long shown =
+    let count : length out / 512 ≡ area_len (seg_count blocks) = omega (arith, long) in
+    let area : blocks_of out ≡ range d.image (live_from (areas_on d blocks live_b)) (area_len (seg_count blocks)) = shown ∙ ap (λ (n : ℕ). range d.image from n) count ∙ ap (λ (n : ℕ). range d.image n (area_len (seg_count blocks))) is in
+    record { each = λ c lt. sym (entry_on_blocks out c (omega (arith, lt, count))) ∙ ap (λ (l : Image). entry_on l c) area }
+
+-- ---- blocks that are written
+
+length-formatted : (blocks : ℕ) → length (formatted blocks) ≡ blocks_for (seg_count blocks)
+length-formatted blocks =
+    let e : suc (2 * area_len (seg_count blocks)) ≡ 1 + 2 * area_len (seg_count blocks) = omega arith in
+    ap suc (length-blank (2 * area_len (seg_count blocks))) ∙ e
+
+zeros_at : (blocks i : ℕ) → i < 2 * area_len (seg_count blocks) → block_at (formatted blocks) (1 + i) ≡ zero_block
+zeros_at blocks i lt =
+    let e : 1 + i ≡ suc i = omega arith in
+    ap (λ (k : ℕ). block_at (formatted blocks) k) e ∙ block_at-blank (2 * area_len (seg_count blocks)) i lt
+
+label_part : (blocks : ℕ) (block : List ℕ) → length block ≡ 512 → IsLabel block (compact_label blocks) → blocks_of block ≡ range (formatted blocks) 0 1
+label_part blocks block one is =
+    blocks_of_one block one
+    ∙ same_images (block ∷ []) (range (formatted blocks) 0 1) (sym (length-range (formatted blocks) 0 1)) (λ i lt.
+    let zero : i ≡ 0 = omega arith in
+    ap (λ (k : ℕ). block_at (block ∷ []) k) zero
+    ∙ is.spelled
+    ∙ sym (block_at-range (formatted blocks) 0 1 0 (omega arith))
+    ∙ ap (λ (k : ℕ). block_at (range (formatted blocks) 0 1) k) (sym zero))
+
+zeros_part : (blocks from : ℕ) (memory : List ℕ) → memory ≡ replicate (512 * area_len (seg_count blocks)) 0 → (from ≡ 0) ⊎ (from ≡ area_len (seg_count blocks)) → blocks_of memory ≡ range (formatted blocks) (1 + from) (area_len (seg_count blocks))
+zeros_part blocks from memory is where_from =
+    ap blocks_of is
+    ∙ blocks_of_zeros (512 * area_len (seg_count blocks)) (area_len (seg_count blocks)) refl
+    ∙ same_images (blank (area_len (seg_count blocks))) (range (formatted blocks) (1 + from) (area_len (seg_count blocks))) (length-blank (area_len (seg_count blocks)) ∙ sym (length-range (formatted blocks) (1 + from) (area_len (seg_count blocks)))) (λ i below.
+    let lt : i < area_len (seg_count blocks) = omega (arith, below, length-blank (area_len (seg_count blocks))) in
+    block_at-blank (area_len (seg_count blocks)) i lt
+    ∙ sym (zeros_at blocks (from + i) (inside i lt where_from))
+    ∙ same_place (formatted blocks) (1 + (from + i)) (1 + from + i) (omega arith)
+    ∙ sym (block_at-range (formatted blocks) (1 + from) (area_len (seg_count blocks)) i lt))
+  where
+    inside : (i : ℕ) → i < area_len (seg_count blocks) → (from ≡ 0) ⊎ (from ≡ area_len (seg_count blocks)) → from + i < 2 * area_len (seg_count blocks)
+    inside i lt (inl zero) = omega arith
+    inside i lt (inr more) = omega arith
+
+-- the first i blocks are written
+record Written (d : Seen) (blocks i : ℕ) (e : Seen) : Type 0 where
+  pub lasts : Lasts d e
+  pub spared : IsSpared d e
+  pub counted : e.written ≡ raised d.written i
+  pub image : IsTold d → e.image ≡ put d.image 0 (range (formatted blocks) 0 i)
+
+Written-none : (d : Seen) (blocks : ℕ) → Written d blocks 0 d
+Written-none d blocks = record { lasts = lasts_same d; spared = spared_same d; counted = refl; image = λ _. sym (put_none d.image 0 (range (formatted blocks) 0 0) (length-range (formatted blocks) 0 0)) }
+
+module _ (d e f : Seen) (blocks i n at : ℕ) (bytes : List ℕ) (p : Written d blocks i e) (at_is : at ≡ 0 + i) (some : 0 < n) (count : length bytes / 512 ≡ n) (part : blocks_of bytes ≡ range (formatted blocks) i n)
+    (fits : i + n ≤ blocks_for (seg_count blocks)) (room : blocks_for (seg_count blocks) ≤ d.size) where
+  Written-more : {T E : Type 0} (x : T) → Writes {E = E} e at bytes (Ok x) f → Written d blocks (i + n) f
+  Written-more x w = record {
+    lasts = lasts_then d e f p.lasts w.goes.lasts;
+    spared = spared_then d e f p.spared w.goes.done;
+    counted = w.counted ∙ ap (λ (k : ℕ). counted e.written k) count ∙ sym (raised-some e.written n some) ∙ ap (λ (k : ℕ). raised k n) p.counted ∙ raised-then d.written i n;
+    image = λ told.
+        w.done (p.lasts.told told)
+        ∙ ap (λ (l : Image). put e.image at l) part
+        ∙ ap (λ (k : ℕ). put e.image k (range (formatted blocks) i n)) at_is
+        ∙ ap (λ (l : Image). put l (0 + i) (range (formatted blocks) i n)) (p.image told)
+        ∙ put_more d.image (formatted blocks) 0 i n;
+  }
+
+  Written-stopped : {T E : Type 0} (y z : E) → Writes {T = T} e at bytes (Err y) f → Formats {T = T} d blocks (Err z) f
+  Written-stopped y z w = record {
+    goes = record { lasts = lasts_then d e f p.lasts w.goes.lasts; done = tt; failed = fails_then d e f p.lasts.steady p.spared w.goes.failed };
+    counted = tt;
+    most = (let k : f.written ≡ raised d.written i = w.uncounted ∙ p.counted in omega (arith, k, raised_most d.written i, fits));
+    done = λ _. tt;
+    stopped = λ told. mix_more d.image (formatted blocks) f.image 0 i n (omega (arith, fits, length-formatted blocks)) (omega (arith, length-formatted blocks, room, told))
+        (subst (λ (l : Image). IsMix l (0 + i) (range (formatted blocks) i n) f.image) (p.image told)
+        (subst (λ (k : ℕ). IsMix e.image k (range (formatted blocks) i n) f.image) at_is
+        (subst (λ (l : Image). IsMix e.image at l f.image) part (w.failed (p.lasts.told told)))));
+  }
+
+Written-all : {T E : Type 0} (x : T) (d e : Seen) (blocks i : ℕ) → i ≡ blocks_for (seg_count blocks) → Written d blocks i e → Formats {E = E} d blocks (Ok x) e
+Written-all x d e blocks i all p = record {
+  goes = record { lasts = p.lasts; done = p.spared; failed = tt };
+  counted = p.counted ∙ ap (λ (k : ℕ). raised d.written k) all ∙ raised-some d.written (blocks_for (seg_count blocks)) (omega arith);
+  most = (let k : e.written ≡ raised d.written i = p.counted in omega (arith, k, raised_most d.written i, all));
+  done = λ told. p.image told ∙ ap (λ (l : Image). put d.image 0 l) (range_all (formatted blocks) i (all ∙ sym (length-formatted blocks)));
+  stopped = λ _. tt;
+}
+
+module _ (d d1 d2 d3 : Seen) (blocks len at3 : ℕ) (block memory : List ℕ) (one : length block ≡ 512) (is : IsLabel block (compact_label blocks)) (len_is : len ≡ area_len (seg_count blocks)) (at3_is : at3 ≡ 1 + len)
+    (zeros : memory ≡ replicate (512 * area_len (seg_count blocks)) 0) (long : length memory ≡ 512 * area_len (seg_count blocks)) (some : 0 < blocks) (room : blocks_for (seg_count blocks) ≤ d.size) where
+  width : length memory / 512 ≡ area_len (seg_count blocks)
+  width = omega (arith, long)
+
+  pub Formats-1 : {T E : Type 0} (y : E) → Writes {T = T} d 0 block (Err y) d1 → Formats {T = T} d blocks (Err y) d1
+  Formats-1 y w = Written-stopped d d d1 blocks 0 1 0 block (Written-none d blocks) (omega arith) (omega arith) (omega (arith, one)) (label_part blocks block one is) (omega arith) room y y w
+
+  after_label : {T E : Type 0} (x : T) → Writes {E = E} d 0 block (Ok x) d1 → Written d blocks (0 + 1) d1
+  after_label x w = Written-more d d d1 blocks 0 1 0 block (Written-none d blocks) (omega arith) (omega arith) (omega (arith, one)) (label_part blocks block one is) (omega arith) room x w
+
+  first_area : blocks_of memory ≡ range (formatted blocks) (0 + 1) (area_len (seg_count blocks))
+  first_area = zeros_part blocks 0 memory zeros (inl refl) ∙ ap (λ (k : ℕ). range (formatted blocks) k (area_len (seg_count blocks))) (let e : 1 + 0 ≡ 0 + 1 = omega arith in e)
+
+  second_area : blocks_of memory ≡ range (formatted blocks) (0 + 1 + area_len (seg_count blocks)) (area_len (seg_count blocks))
+  second_area = zeros_part blocks (area_len (seg_count blocks)) memory zeros (inr refl) ∙ ap (λ (k : ℕ). range (formatted blocks) k (area_len (seg_count blocks))) (let e : 1 + area_len (seg_count blocks) ≡ 0 + 1 + area_len (seg_count blocks) = omega arith in e)
+
+  pub Formats-2 : {T E : Type 0} (x : T) (y : E) → Writes {E = E} d 0 block (Ok x) d1 → Writes {T = T} d1 1 memory (Err y) d2 → Formats {T = T} d blocks (Err y) d2
+  Formats-2 x y w w2 = Written-stopped d d1 d2 blocks (0 + 1) (area_len (seg_count blocks)) 1 memory (after_label x w) (omega arith) (omega arith) width first_area (omega arith) room y y w2
+
+  after_first : {T E : Type 0} (x y : T) → Writes {E = E} d 0 block (Ok x) d1 → Writes {E = E} d1 1 memory (Ok y) d2 → Written d blocks (0 + 1 + area_len (seg_count blocks)) d2
+  after_first x y w w2 = Written-more d d1 d2 blocks (0 + 1) (area_len (seg_count blocks)) 1 memory (after_label x w) (omega arith) (omega arith) width first_area (omega arith) room y w2
+
+  pub Formats-3 : {T E : Type 0} (x y : T) (r : Result T E) → Writes {E = E} d 0 block (Ok x) d1 → Writes {E = E} d1 1 memory (Ok y) d2 → Writes d2 at3 memory r d3 → Formats d blocks r d3
+  Formats-3 x y (Err e) w w2 w3 = Written-stopped d d2 d3 blocks (0 + 1 + area_len (seg_count blocks)) (area_len (seg_count blocks)) at3 memory (after_first x y w w2) (omega arith) (omega arith) width second_area (omega arith) room e e w3
+  Formats-3 x y (Ok z) w w2 w3 = Written-all z d d3 blocks (0 + 1 + area_len (seg_count blocks) + area_len (seg_count blocks)) (omega arith)
+      (Written-more d d2 d3 blocks (0 + 1 + area_len (seg_count blocks)) (area_len (seg_count blocks)) at3 memory (after_first x y w w2) (omega arith) (omega arith) width second_area (omega arith) room z w3)
+
+-- ---- a new set
+
+pub HasArea-cleared : (area : Image) (blocks n : ℕ) (memory new : List ℕ) → n ≡ seg_count blocks → ((c : ℕ) → c < n → entry_in new c ≡ entry_in memory c) → HasArea area (seg_count blocks) memory → HasArea area (seg_count blocks) new
+HasArea-cleared area blocks n memory new is same has = record { each = λ c lt. same c (omega arith) ∙ has.each c lt }
+
+pub entries_none : (memory : List ℕ) (n : ℕ) → memory ≡ replicate n 0 → (c : ℕ) → entry_in memory c ≡ 0
+entries_none memory n is c = ap (λ (l : List ℕ). entry_in l c) is ∙ entry_in-zeros n c
+
+pub IsClean-zeros : (memory : List ℕ) (n chunks : ℕ) → memory ≡ replicate n 0 → IsClean memory chunks
+IsClean-zeros memory n chunks is = record { each = λ c _. entries_none memory n is c }
+
+entry_in-zero_block : (c : ℕ) → entry_in zero_block c ≡ 0
+unfolding zero_block
+entry_in-zero_block c = entry_in-zeros 512 c
+
+-- where no chunk has a slot, both images are the master's
+no_state : (e : ℕ) → e ≡ 0 → state_by e ≢ 3
+no_state e is three = omega (arith, is, three)
+
+shadow_is_master : (n own : ℕ) (area s o m : Image) → length m ≡ n → ((c : ℕ) → c < seg_count n → entry_on area c ≡ 0) → shadow_by n own area s o m ≡ m
+unfolding shadow_by
+shadow_is_master n own area s o m len all = same_images _ _ (length-tabulate _ _ ∙ sym len) (λ i below.
+    let lt : i < n = omega (arith, below, length-tabulate n (λ (i : ℕ). cond (eqb (entry_on area (i / 64)) 0) (block_at m i) (in_slot own s o (slot_by (entry_on area (i / 64))) (i % 64)))) in
+    block_at-tabulate _ _ i lt ∙ cond_is _ 0 _ _ (all (i / 64) (omega arith)))
+
+master_is_master : (n own : ℕ) (area s o m : Image) → length m ≡ n → ((c : ℕ) → c < seg_count n → entry_on area c ≡ 0) → master_by n own area s o m ≡ m
+unfolding master_by
+master_is_master n own area s o m len all = same_images _ _ (length-tabulate _ _ ∙ sym len) (λ i below.
+    let lt : i < n = omega (arith, below, length-tabulate n (λ (i : ℕ). cond (eqb (state_by (entry_on area (i / 64))) 3) (in_slot own s o (slot_by (entry_on area (i / 64))) (i % 64)) (block_at m i))) in
+    block_at-tabulate _ _ i lt ∙ cond_not _ 3 _ _ (no_state _ (all (i / 64) (omega arith))))
+
+module _ (set : ℕ) (shadow bitmap e : Seen) (blocks : ℕ) (memory next : List ℕ) (small : blocks < 2 ^ 32) (room : Fits bitmap.size blocks) (zeros : memory ≡ replicate (512 * area_len (seg_count blocks)) 0) where
+  abbrev pub made : CompactSet
+  made = record { set = set; own = own_slots shadow.size; shadow = Some shadow; areas = areas_on e blocks false; memory = memory; next = next; blocks = blocks }
+
+  module _ (image : e.image ≡ put bitmap.image 0 (formatted blocks)) (told : IsTold bitmap) where
+    at_formatted : (i : ℕ) → i < blocks_for (seg_count blocks) → block_at e.image i ≡ block_at (formatted blocks) i
+    at_formatted i lt =
+        ap (λ (l : Image). block_at l i) image
+        ∙ put_inside bitmap.image 0 (formatted blocks) i (omega arith) (omega (arith, lt, length-formatted blocks)) (omega (arith, lt, told, room))
+        ∙ same_place (formatted blocks) (i - 0) i (omega arith)
+
+    made_entry : (c : ℕ) → c < seg_count blocks → disk_entry made c ≡ 0
+    unfolding live entry_on
+    made_entry c lt =
+        let inside : c / 128 < area_len (seg_count blocks) = omega arith in
+        ap (λ (b : Block). entry_in b (c % 128)) (block_at-range e.image 1 (area_len (seg_count blocks)) (c / 128) inside ∙ at_formatted (1 + c / 128) (omega arith) ∙ zeros_at blocks (c / 128) (omega arith))
+        ∙ entry_in-zero_block (c % 128)
+
+    made_label : HasLabel made
+    made_label = record {
+      label = record {
+        keeps = record { version = refl; kind_some = omega arith; kind = omega arith; stamp = omega arith; stamp_none = λ _. refl };
+        fits = record { blocks = small; segments = omega (arith, small) };
+        spelled = at_formatted 0 (omega arith);
+      };
+    }
+
+  memory_entry : (c : ℕ) → entry_of made c ≡ 0
+  memory_entry c = entries_none memory (512 * area_len (seg_count blocks)) zeros c
+
+  Makes-made : {T E : Type 0} (x : T) → Formats {E = E} bitmap blocks (Ok x) e → Makes set shadow bitmap blocks made
+  Makes-made x f = record {
+    is = refl;
+    fits = room;
+    lasts = f.goes.lasts;
+    spared = f.goes.done;
+    counted = f.counted;
+    on_disk = λ told. (made_label (f.done told) told, f.done told);
+    entries = memory_entry;
+    step = λ told. record { each = λ c lt. memory_entry c ∙ sym (made_entry (f.done told) told c lt) };
+    images = λ told o m len. (shadow_is_master blocks (own_slots shadow.size) (live made.areas) shadow.image o.disk.image m len (made_entry (f.done told) told), master_is_master blocks (own_slots shadow.size) (live made.areas) shadow.image o.disk.image m len (made_entry (f.done told) told));
+  }
+
+  pub Makes-format : {T E : Type 0} (q : Result T E) (x : T) (new : CompactSet) → q ≡ Ok x → Formats bitmap blocks q e → new ≡ made → Makes set shadow bitmap blocks new
+  Makes-format {T = T} {E = E} q x new is f new_is = subst (λ (s : CompactSet). Makes set shadow bitmap blocks s) (sym new_is) (Makes-made x (subst (λ (r : Result T E). Formats bitmap blocks r e) is f))
+
+-- ---- a set that is found
+
+pub Loads-found : (set own : ℕ) (X : Option Seen) (bitmap e : Seen) (blocks : ℕ) (live_b : Bool) (memory next : List ℕ) (new : CompactSet)
+    → own ≡ own_of X → Fits bitmap.size blocks → e ≡ bitmap
+    → (IsTold bitmap → IsLabel (block_at bitmap.image 0) (compact_label blocks))
+    → (IsTold bitmap → HasArea (live (areas_on bitmap blocks live_b)) (seg_count blocks) memory)
+    → AreEntries (entry_in memory) own (seg_count blocks)
+    → new ≡ record { set = set; own = own; shadow = X; areas = areas_on e blocks live_b; memory = memory; next = next; blocks = blocks }
+    → Loads set X bitmap blocks live_b new
+Loads-found set own X bitmap e blocks live_b memory next new own_is room same label area entries new_is =
+    let is : new ≡ record { set = set; own = own_of X; shadow = X; areas = areas_on bitmap blocks live_b; memory = memory; next = next; blocks = blocks } =
+    new_is ∙ ap (λ (d : Seen). record { set = set; own = own; shadow = X; areas = areas_on d blocks live_b; memory = memory; next = next; blocks = blocks }) same
+    ∙ ap (λ (n : ℕ). record { set = set; own = n; shadow = X; areas = areas_on bitmap blocks live_b; memory = memory; next = next; blocks = blocks }) own_is in
+    subst (λ (s : CompactSet). Loads set X bitmap blocks live_b s) (sym is) (record {
+      is = refl;
+      fits = room;
+      label = λ told. record { label = label told };
+      entries = subst (λ (n : ℕ). AreEntries (entry_in memory) n (seg_count blocks)) own_is entries;
+      step = λ told. record { each = (area told).each };
+    })

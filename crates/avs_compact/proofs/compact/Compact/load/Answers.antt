@@ -1,0 +1,26 @@
+use Rattle.std.proofs.Common.{rules}
+use Rattle.std.specs.Option.{option_map}
+use Rattle.avs_compact.specs.Entries.{entry_in}
+use Rattle.avs_compact.proofs.Formatting.{Loads-found, IsClean-zeros}
+use Rattle.avs_compact.proofs.Marking.{marks_apart}
+use Rattle.avs_compact.proofs.compact.Compact.load.Goals as goal
+
+pub returns-in-Ok-clause-loaded : goal.returns-in-Ok-clause-loaded
+returns-in-Ok-clause-loaded g c =
+    Loads-found c.args.set c.own_of-own.result (option_map g.D.Disk.seen c.args.shadow) (g.D.Disk.seen c.args.bitmap) (g.D.Disk.seen c.find.new.disk) c.args.blocks c.args.live_b c.in-Ok.found.room.memory.items c.in-Ok.found.room.next.items c.over.result
+    c.own_of-own.ensures.is c.in-Ok.ensures.fits c.in-Ok.ensures.kept c.in-Ok.ensures.label c.in-Ok.ensures.area (marks_apart (entry_in c.in-Ok.found.room.memory.items) _ _ c.in-Ok.found.room.table.items c.in-Ok.found.counts c.in-Ok.ensures.marked) c.over.ensures
+
+pub over-requires-clause-kept : goal.over-requires-clause-kept
+over-requires-clause-kept g c = record {
+  room = search rules;
+  first = search rules;
+  len = search rules;
+  fits = search rules;
+  entries = search rules;
+  clean = c.in-Ok.ensures.clean;
+  staged = search rules;
+  staged_clean = IsClean-zeros c.in-Ok.found.room.next.items _ _ c.in-Ok.ensures.next;
+  chunk = search rules;
+  small = search rules;
+  few = search rules;
+}

@@ -1,0 +1,156 @@
+// How many slots a set needs and has, and how many of its chunks are in a state.
+ghost use Rattle.std.specs.Prelude.{◌≡◌, ◌≢◌, ◌+◌, ◌*◌, ◌-◌, ◌<◌, ◌≤◌, ◌^◌, ◌==◌, IsTrue, not, IsOk, IfOk, IfSome, IfNone, true, false, if◌then◌else◌, length};
+ghost use Rattle.avs_over.specs.Over.{slots, used};
+ghost use Rattle.avs_compact.specs.Entries.{entry_in, code_of, state_by, slot_by, on_shadow, split};
+ghost use Rattle.avs_compact.specs.CompactSet.{chunks_of, entry_of, over_of, need_of, room_of, room_by_rule, HasTaken, is_over, count_of};
+ghost use Rattle.avs_compact.specs.Counting.{FindsOver, is_in};
+ghost use Rattle.avs_compact.specs.Calls.{AreThere, LacksSlot};
+
+use crate::compact::Compact;
+use crate::entries::{ChunkState, entry_in, slot_by, state_by};
+use avs_dev::Disk;
+use avs_over::Over;
+use avs_seg::{Failed, seg_count};
+
+// 1 where an entry tells a state.
+fn one_in(entry: u32, state: ChunkState) -> u32
+    ensures { result ≡ (if is_in (code_of state) entry then 1 else 0) }
+{
+    if state_by(entry) == state { 1 } else { 0 }
+}
+
+// How many of the first entries tell a state.
+fn count_in(bytes: &[u8], end: u32, state: ChunkState) -> u32
+    requires { 4 * end ≤ length bytes.now }
+    ensures counted { result ≡ count_of (is_in (code_of state)) (entry_in bytes.now) end }
+    ensures most { result ≤ end }
+{
+    let mut count = 0;
+    for chunk in 0..end {
+        count += one_in(entry_in(bytes, chunk), state);
+    }
+    count
+}
+
+// The slot of the overflow volume that an entry tells.
+fn over_slot(entry: u32, own: u32) -> Option<u32>
+    ensures some { IfSome result (λ slot. (is_over own entry ≡ true) × (slot ≡ slot_by entry - own)) }
+    ensures none { IfNone result (is_over own entry ≡ false) }
+{
+    if entry == 0 || slot_by(entry) < own {
+        return None;
+    }
+    Some(slot_by(entry) - own)
+}
+
+// The free slots of an overflow volume that may be there.
+fn free_of<D: Disk>(over: &Option<Over<D>>) -> u32
+    ensures is { result ≡ slots (over_of over.now) - used (over_of over.now) }
+    ensures few { result < 2 ^ 26 }
+{
+    match over {
+        Some(over) => over.slots() - over.used(),
+        None => 0,
+    }
+}
+
+// How many slots an overflow volume has that may be there.
+fn slots_of<D: Disk>(over: &Option<Over<D>>) -> u32
+    ensures { result ≡ slots (over_of over.now) }
+{
+    match over {
+        Some(over) => over.slots(),
+        None => 0,
+    }
+}
+
+// Whether the slot that an entry tells is one of the set's own, or one of so many.
+fn is_there(entry: u32, own: u32, slots: u32) -> bool
+    ensures there { IsTrue result → entry ≢ 0 → own ≤ slot_by entry → slot_by entry - own < slots }
+    ensures lacks { IsTrue (not result) → (entry ≢ 0) × ((own ≤ slot_by entry) × (slots ≤ slot_by entry - own)) }
+{
+    if entry == 0 {
+        return true;
+    }
+    let slot = slot_by(entry);
+    if slot < own {
+        return true;
+    }
+    slot - own < slots
+}
+
+impl<D: Disk> Compact<D> {
+    /// Whether the slots that stand in the set's entries are there, in this overflow volume.
+    pub fn is_served(&self, over: &Option<Over<D>>) -> bool
+        ensures served { IsTrue result → AreThere self.now (over_of over.now) }
+        ensures lacks { IsTrue (not result) → LacksSlot self.now (over_of over.now) }
+    {
+        let slots = slots_of(over);
+        for chunk in 0..seg_count(self.blocks) {
+            if !is_there(entry_in(&self.memory, chunk), self.own, slots) {
+                return false;
+            }
+        }
+        true
+    }
+
+    /// How many slots the set needs: one for each chunk that was touched.
+    pub fn need(&self) -> u32
+        ensures counted { result ≡ need_of self.now }
+        ensures most { result ≤ chunks_of self.now }
+    {
+        self.counts.own + self.counts.over
+    }
+
+    /// How many slots the set has room for: its own, and those of its overflow volume that no other set has taken.
+    pub fn room(&self, over: &Option<Over<D>>) -> u32
+        ensures is { result ≡ room_of self.now (over_of over.now) }
+        ensures by_rule { HasTaken self.now (over_of over.now) → result ≡ room_by_rule self.now (over_of over.now) }
+    {
+        self.own + self.counts.over + free_of(over)
+    }
+
+    /// How many chunks stand in their slots alone.
+    pub fn back(&self) -> u32
+        ensures counted { result ≡ count_of (is_in on_shadow) (entry_of self.now) (chunks_of self.now) }
+        ensures most { result ≤ chunks_of self.now }
+    {
+        count_in(&self.memory, seg_count(self.blocks), ChunkState::OnShadow)
+    }
+
+    /// How many chunks are split.
+    pub fn moved(&self) -> u32
+        ensures counted { result ≡ count_of (is_in split) (entry_of self.now) (chunks_of self.now) }
+        ensures most { result ≤ chunks_of self.now }
+    {
+        count_in(&self.memory, seg_count(self.blocks), ChunkState::Split)
+    }
+
+    /// How many chunks are still to be copied to the shadow: none of a dependent set.
+    pub fn left(&self) -> u32
+        ensures { result ≡ 0 }
+    {
+        0
+    }
+
+    /// Where the contents of a chunk stand.
+    pub fn state(&self, chunk: u32) -> ChunkState
+        requires { chunk < chunks_of self.now }
+        ensures { code_of result ≡ state_by (entry_of self.now chunk) }
+    {
+        state_by(entry_in(&self.memory, chunk))
+    }
+
+    /// The least chunk from one on that has a slot of the overflow volume, with that slot.
+    pub fn next_over(&self, from: u32) -> Result<Option<(u32, u32)>, Failed>
+        ensures ok { IsOk result }
+        ensures found { IfOk result (λ found. FindsOver (entry_of self.now) self.now.own from (chunks_of self.now) found) }
+    {
+        for chunk in from..seg_count(self.blocks) {
+            if let Some(slot) = over_slot(entry_in(&self.memory, chunk), self.own) {
+                return Ok(Some((chunk, slot)));
+            }
+        }
+        Ok(None)
+    }
+}

@@ -1,0 +1,38 @@
+// Blocks of a slot: of the shadow's disk, or behind its own slots of an overflow volume.
+ghost use Rattle.std.specs.Prelude.{◌≡◌, ◌<◌, ◌≤◌, IsTrue, is_some, length};
+ghost use Rattle.std.specs.Option.{option_map};
+ghost use Rattle.avs_compact.specs.CompactSet.{disk_of, over_of};
+ghost use Rattle.avs_compact.specs.Calls.{IsInSlot, ReadsOne};
+
+use avs_dev::Disk;
+use avs_over::Over;
+use avs_seg::{Failed, SEGMENT};
+
+/// Reads blocks of a slot, counted from its first one.
+pub(crate) fn read_slot<D: Disk>(
+    shadow: &mut Option<D>,
+    over: &mut Option<Over<D>>,
+    own: u32,
+    slot: u32,
+    at: u32,
+    out: &mut [u8],
+) -> Result<(), Failed>
+    requires there { slot < own → IsTrue (is_some shadow.old) }
+    requires inside { IsInSlot (disk_of (option_map D.seen shadow.old)) (over_of over.old) own slot at (length out.old) }
+    ensures reads { ReadsOne (disk_of (option_map D.seen shadow.old)) (over_of over.old) own slot at out.new result
+        (disk_of (option_map D.seen shadow.new)) (over_of over.new) }
+    ensures still { is_some shadow.new ≡ is_some shadow.old }
+    ensures still_over { is_some over.new ≡ is_some over.old }
+    ensures len { length out.new ≡ length out.old }
+{
+    if slot < own {
+        return match shadow {
+            Some(disk) => disk.read(SEGMENT * slot + at, out),
+            None => Ok(()),
+        };
+    }
+    match over {
+        Some(over) => over.read(slot - own, at, out),
+        None => Ok(()),
+    }
+}

@@ -1,0 +1,5 @@
+//! Compact sets over disks in memory, by their public calls.
+#![tactic(auto)]
+
+#[cfg(test)]
+mod tests;
