@@ -1,14 +1,15 @@
 -- A map of names, seen as a list of volumes.
-use Rattle.std.proofs.Common.{◌≡◌, ℕ, Bool, true, false, not, cond, Option, None, Some, List, [], ◌∷◌, ◌++◌, map, is_some, if◌then◌else◌, Result, Ok, Err, OnErr, refl, sym, ap, ◌∙◌, true≢false, unwrap_or}
-use Rattle.std.specs.List.{IsDistinct, AllByRecursion}
+use Rattle.std.proofs.Common.{◌≡◌, ℕ, ◌+◌, Bool, true, false, not, cond, Option, None, Some, List, [], ◌∷◌, ◌++◌, map, is_some, if◌then◌else◌, IfSome, slice_get, Result, Ok, Err, OnErr, refl, sym, ap, ◌∙◌, true≢false, unwrap_or}
+use Rattle.std.specs.List.{IsDistinct, AllByRecursion, position, position_or_len}
 use Rattle.std.specs.Option.{option_map}
 use Rattle.std.specs.Str.{bytes_eq}
 use Rattle.std.specs.Map.{keys_of, lookup, remove_entry, set_value}
+use Rattle.std.proofs.lemmas.List.Folds.{find_at}
 use Rattle.indexmap.specs.IndexMap.{insert_entry}
 use Rattle.std.specs.Cmp.Lexicographic.{bytes_decides}
 use Rattle.avs_stack.specs.declared.roles.Roles.{Roles}
 use Rattle.avs_stack.specs.declared.stack.Kept.{Kept}
-use Rattle.avs_stack.specs.Names.{Named, AreApart, no_roles, named_in, has_name, with_name, with_roles, without_name}
+use Rattle.avs_stack.specs.Names.{Named, AreApart, no_roles, is_named, named_in, has_name, with_name, with_roles, without_name}
 use Rattle.avs_stack.specs.Kept.{named}
 
 not_first : {X : Type 0} (b : Bool) (x : X) (rest : Option X) → cond b (Some x) rest ≡ None → b ≡ false
@@ -35,6 +36,11 @@ pub err_exit : {T E P : Type 0} (r : Result T E) → P → OnErr r P
 err_exit (Ok x) p = tt
 err_exit (Err e) p = p
 
+-- a place that is found is that one
+is_place : (b : Bool) (n i : ℕ) → Some i ≡ cond b (Some n) None → i ≡ n
+is_place true n i found = ap (λ o. unwrap_or o i) found
+is_place false n i found = absurd (true≢false (ap is_some found))
+
 -- a name that is taken leaves the names as they are
 pub kept_as_is : (stack : List Named) (name : List ℕ) (number : ℕ) → has_name stack name ≡ true → stack ≡ with_name stack name number
 kept_as_is stack name number taken =
@@ -59,6 +65,18 @@ module _ {K : Type 0} (bytes : K → List ℕ) where
         some_cond b e.1 (lookup (λ key. bytes_eq name (bytes key)) es)
         ∙ ap (cond b true) (there es)
         ∙ sym (some_cond b (named bytes e) (named_in (map (named bytes) es) name))
+
+    -- what stands at the place of its key is what is found by it
+    same_place : (es : List (K × Kept)) → position_or_len (λ key. bytes_eq name (bytes key)) (keys_of es) ≡ position_or_len (is_named name) (map (named bytes) es)
+    same_place [] = refl
+    same_place (e ∷ es) = ap (λ n. cond (not (bytes_eq name (bytes e.0))) (1 + n) 0) (same_place es)
+
+    pub placed : (es : List (K × Kept)) (place : Option ℕ) → place ≡ position (λ key. bytes_eq name (bytes key)) (keys_of es)
+        → IfSome place (λ at. slice_get (map (named bytes) es) at ≡ named_in (map (named bytes) es) name)
+    placed es None found = tt
+    placed es (Some at) found =
+        let stack = map (named bytes) es in
+        ap (slice_get stack) (is_place _ _ at found ∙ same_place es) ∙ sym (find_at (is_named name) stack)
 
     -- where it has none, nothing is taken out, and nothing is given roles
     stays : (es : List (K × Kept)) → lookup (λ key. bytes_eq name (bytes key)) es ≡ None → map (named bytes) es ≡ without_name (map (named bytes) es) name

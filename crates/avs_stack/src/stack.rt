@@ -1,7 +1,7 @@
 // The names of a host.
-ghost use Rattle.std.specs.Prelude.{◌≡◌, [], IfOk, OnOk, OnErr, false, is_some, length, not, slice_get};
+ghost use Rattle.std.specs.Prelude.{◌≡◌, [], IfOk, IfSome, OnOk, OnErr, false, is_some, length, not, slice_get};
 ghost use Rattle.std.specs.Option.{option_copied, option_map};
-ghost use Rattle.avs_stack.specs.Names.{AreApart, has_name, number_of, roles_of, with_name, with_roles, without_name};
+ghost use Rattle.avs_stack.specs.Names.{AreApart, has_name, named_in, number_of, roles_of, with_name, with_roles, without_name};
 
 use crate::roles::Roles;
 use avs_seg::NoMemory;
@@ -110,5 +110,13 @@ impl Stack {
     {
         let (name, _) = self.volumes.get_index(at as usize)?;
         Some(name.as_str())
+    }
+    /// The place of a name, counted from 0 in order of making.
+    pub fn place(&self, name: &str) -> Option<usize>
+        ensures found { is_some result ≡ has_name self.now name.now }
+        ensures at { IfSome result (λ place. slice_get self.now place ≡ named_in self.now name.now) }
+        ensures apart { AreApart self.now }
+    {
+        self.volumes.get_index_of(name)
     }
 }

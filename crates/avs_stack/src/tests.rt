@@ -31,6 +31,9 @@ fn names_stand_in_order_of_making(rt: HostRuntime) {
     is_at(&rt, &stack, 0, "/v/b");
     is_at(&rt, &stack, 1, "/v/a");
     is_at(&rt, &stack, 3, "none");
+    same(&rt, stack.place("/v/b"), Some(0));
+    same(&rt, stack.place("/v/a"), Some(1));
+    same(&rt, stack.place("/v/d"), None);
     same(&rt, stack.remove("/v/b"), Some(7));
     same(&rt, stack.remove("/v/b"), None);
     same(&rt, stack.len(), 2);
