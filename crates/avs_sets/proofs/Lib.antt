@@ -1,0 +1,15 @@
+pub mod Lists
+pub mod Lift
+pub mod Places
+pub mod Spots
+pub mod Chains
+pub mod Commits
+pub mod Marks
+pub mod Lifted
+pub mod Settling
+pub mod Changes
+pub mod Put
+pub mod Putting
+pub mod Found
+pub mod Offlining
+pub mod OwnSlots

@@ -1,0 +1,6 @@
+pub mod Says
+pub mod Sets
+pub mod Meaning
+pub mod Whole
+pub mod Goes
+pub mod Steps
