@@ -34,4 +34,11 @@ impl Blocks {
     {
         &self.bytes
     }
+
+    /// The bytes of the blocks, whose memory is handed on.
+    pub fn into_bytes(self) -> Vec<u8>
+        ensures { blocks_of result.items ≡ self }
+    {
+        self.bytes
+    }
 }

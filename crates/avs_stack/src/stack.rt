@@ -111,6 +111,7 @@ impl Stack {
         let (name, _) = self.volumes.get_index(at as usize)?;
         Some(name.as_str())
     }
+
     /// The place of a name, counted from 0 in order of making.
     pub fn place(&self, name: &str) -> Option<usize>
         ensures found { is_some result ≡ has_name self.now name.now }

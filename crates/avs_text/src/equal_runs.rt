@@ -1,13 +1,28 @@
 // What is printed of runs of equal blocks.
-ghost use Rattle.std.specs.Prelude.{◌≡◌, ◌<◌, ◌++◌, length, OnOk};
+ghost use Rattle.std.specs.Prelude.{◌≡◌, ◌*◌, ◌/◌, ◌<◌, ◌++◌, length, IfOk, OnOk};
 ghost use Rattle.std.specs.Fmt.{decimal};
 ghost use Rattle.std.specs.String.{string_bytes};
+ghost use Rattle.avs_seg.specs.Image.{blocks_of};
 ghost use Rattle.avs_model.specs.EqualBlocks.{runs_of, run_at};
 ghost use Rattle.avs_model.specs.Printed.{hex_digit, hex_text, run_text, runs_text};
 
 use avs_model::EqualRuns;
 use avs_seg::NoMemory;
+use std::alloc::Global;
 use std::fmt::Write;
+
+/// What is printed of whole blocks: each run of equal ones as their number, `*` and the digits of the shortest pattern that fills such a
+/// block, and one space between two runs. Only memory can be wanting.
+pub fn runs(alloc: Global, bytes: &[u8]) -> Result<String, NoMemory>
+    requires { 512 * (length bytes.now / 512) ≡ length bytes.now }
+    ensures { IfOk result (λ text. string_bytes text ≡ runs_text (blocks_of bytes.now)) }
+{
+    let mut held = EqualRuns::new(alloc);
+    held.push(bytes)?;
+    let mut text = String::new(alloc);
+    push_runs(&mut text, &held)?;
+    Ok(text)
+}
 
 // Appends what is printed of blocks: each run of equal ones as their number, `*` and the digits of the shortest pattern that fills such a
 // block, and one space between two runs.

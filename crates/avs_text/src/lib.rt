@@ -9,6 +9,7 @@ mod numbers;
 mod print;
 mod words;
 
+pub use equal_runs::runs;
 pub use filling::fill;
 pub use names::{host_named, is_group_name, is_volume_name};
 pub use numbers::{number, pattern};

@@ -4,7 +4,7 @@ use avs_model::{
     Second, SetLine, SetLines, Word,
 };
 use avs_seg::SegList;
-use avs_text::{answer_line, bad_line, fill, is_volume_name};
+use avs_text::{answer_line, bad_line, fill, is_volume_name, runs};
 use std::alloc::Global;
 use std::process::Abort;
 
@@ -28,26 +28,26 @@ fn joined(rt: &impl Abort, alloc: Global, parts: &[Part<'_>]) -> Vec<u8> {
     bytes
 }
 
-// Blocks of these parts.
-fn blocks(rt: &impl Abort, alloc: Global, held: &[Part<'_>]) -> EqualRuns {
-    let bytes = joined(rt, alloc, held);
+// Blocks of these bytes.
+fn blocks(rt: &impl Abort, alloc: Global, bytes: &[u8]) -> EqualRuns {
     let len = bytes.len();
     assert!(rt; 512 * (len / 512) == len);
     let mut runs = EqualRuns::new(alloc);
-    runs.push(&bytes).expect(rt, "memory");
+    runs.push(bytes).expect(rt, "memory");
     runs
 }
 
-// Blocks of these parts are printed as those parts.
+// Blocks of these parts are printed as those parts, alone and behind the word of an answer.
 fn prints(rt: &impl Abort, alloc: Global, held: &[Part<'_>], want: &[Part<'_>]) {
-    let answer = Answer::Shown(blocks(rt, alloc, held));
+    let bytes = joined(rt, alloc, held);
+    let len = bytes.len();
+    assert!(rt; 512 * (len / 512) == len);
+    let text = runs(alloc, &bytes).expect(rt, "memory");
+    same(rt, text.as_bytes(), joined(rt, alloc, want).as_slice());
+    let answer = Answer::Shown(blocks(rt, alloc, &bytes));
     let line = answer_line(alloc, &answer).expect(rt, "memory");
-    let mut text = joined(rt, alloc, &[(1, b"data ")]);
-    for (times, part) in want {
-        append(rt, &mut text, *times, part);
-    }
-    append(rt, &mut text, 1, b"\n");
-    same(rt, line.as_bytes(), text.as_slice());
+    let told = [(1, "data ".as_bytes()), (1, text.as_bytes()), (1, b"\n")];
+    same(rt, line.as_bytes(), joined(rt, alloc, &told).as_slice());
 }
 
 // Three blocks are filled with a pattern of these bytes, which they hold so many times then.
@@ -167,7 +167,8 @@ fn prints_the_arguments_of_a_refusal(rt: HostRuntime) {
 
 #[test]
 fn prints_the_line_of_each_answer(rt: HostRuntime) {
-    let read = blocks(&rt, rt.alloc(), &[(1024, b"\x00"), (256, b"\x0a\xf0")]);
+    let bytes = joined(&rt, rt.alloc(), &[(1024, b"\x00"), (256, b"\x0a\xf0")]);
+    let read = blocks(&rt, rt.alloc(), &bytes);
     for (answer, want) in [
         (Answer::Done, "ok\n"),
         (Answer::Shown(read), "data 2*00 1*0af0\n"),
