@@ -1,5 +1,6 @@
 pub mod Quarters
 pub mod Counts
+pub mod Dues
 pub mod Sums
 pub mod StateBlocks
 pub mod Going

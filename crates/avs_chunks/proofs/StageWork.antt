@@ -9,7 +9,7 @@ use Rattle.avs_model.specs.ShadowSets.{ShadowState, Standing, is_offline}
 use Rattle.avs_model.specs.ShadowSets as model
 use Rattle.avs_model.specs.GroupWork.{GroupSpot, VolumeDisk, ShadowDisk, BitmapDisk, Work, on, on_over, is_bare, copy_to_shadow, copy_to_master, mark_work, copy_work, blocks_on_spot}
 use Rattle.avs_chunks.specs.ChunkSet.{ChunkSet, chunks_of, state_of}
-use Rattle.avs_chunks.specs.Copying.{is_independent, is_due}
+use Rattle.avs_chunks.specs.Due.{is_independent, is_due}
 use Rattle.avs_chunks.specs.Disks.{ChunkDisk, Master, Shadow, Bitmap, save_work, settle_work}
 use Rattle.avs_chunks.specs.Working.{IsListed, StandsFor, spot_of}
 use Rattle.avs_chunks.proofs.Quarters.{state_in_small}

@@ -7,7 +7,7 @@ use Rattle.std.proofs.lemmas.Nat.{le_bytes_8, shr-shr}
 use Rattle.std.proofs.lemmas.Nat.Bits.{bit_at_and, bit_at_or, bit_at-zero, bit_at_cat_low, bit_at_cat_high}
 use Rattle.std.proofs.lemmas.List.{get_or-take, get_or-drop, get_or_past}
 use Rattle.avs_chunks.specs.States.{quarter, state_in}
-use Rattle.avs_chunks.specs.Copying.{is_due}
+use Rattle.avs_chunks.specs.Due.{is_due}
 use Rattle.avs_chunks.proofs.Quarters.{state_in_is, quarter_is}
 
 -- ---- the lower bits

@@ -12,7 +12,7 @@ use Rattle.avs_flip.specs.Areas.{live}
 use Rattle.avs_chunks.specs.States.{state_on, Splits, SplitsFirst}
 use Rattle.avs_chunks.specs.ChunkSet.{ChunkSet, shadow_by, master_by, disk_of, disk_state, chunks_of, shadow_image, master_image, IsKnown}
 use Rattle.avs_chunks.specs.Disks.{ChunkDisk, Master, Shadow, Bitmap, disk_at, raised, Adds, range_work, write_work}
-use Rattle.avs_chunks.specs.Calls.{KeepsBlocks}
+use Rattle.avs_chunks.specs.Calls.{KeepsBlocks, AreSplit, PutsImage, PutsShadow}
 use Rattle.avs_chunks.specs.Writing.{SavesRange, chunks_end, WritesShadow}
 use Rattle.avs_chunks.proofs.Going.{each_disk, shadow_goes, raised-some}
 use Rattle.avs_chunks.proofs.Images.{same_shadow, same_master, shadow-put, shadow-mix, master-kept, alike-kept}
@@ -24,6 +24,35 @@ shadow_kept a b m m' blocks kept = ap (λ (n : ℕ). shadow_by n (live b.areas) 
 
 master_kept : (a b : ChunkSet) (m m' : Image) → b.blocks ≡ a.blocks → KeepsBlocks a m b m' → master_image b m' ≡ master_image a m
 master_kept a b m m' blocks kept = ap (λ (n : ℕ). master_by n (live b.areas) (disk_of b.shadow).image m') blocks ∙ same_master a.blocks (live a.areas) (disk_of a.shadow).image m (live b.areas) (disk_of b.shadow).image m' kept.master
+
+-- blocks are written on the shadow's disk in chunks that are split there
+module _ (s : ChunkSet) (X : Option Seen) (at : ℕ) (bytes : List ℕ) (fits : at + length bytes / 512 ≤ s.blocks) where
+  module _ (all : (i : ℕ) → at ≤ i → i < at + length bytes / 512 → state_on (live s.areas) (i / 64) ≡ 2) (long : s.blocks ≤ length (disk_of s.shadow).image) (told : IsTold (disk_of s.shadow)) (m : Image) where
+    pub puts_image : {T E : Type 0} (r : Result T E) → Writes (disk_of s.shadow) at bytes r (disk_of X) → PutsImage s m at (blocks_of bytes) r (record s { shadow = X })
+    puts_image r w = record {
+      master = master-kept s.blocks (live s.areas) m (disk_of s.shadow).image at (length bytes / 512) all fits (disk_of X).image (w.within told);
+      alike = λ al. record {
+        same = λ i lt one. alike-kept s.blocks (live s.areas) m (disk_of s.shadow).image at (length bytes / 512) all fits (disk_of X).image (w.within told) i one ∙ al.same i lt one;
+      };
+      done = on_ok_weaker r (λ done.
+          ap (λ (l : Image). shadow_by s.blocks (live s.areas) l m) done
+          ∙ shadow-put s.blocks (live s.areas) m (disk_of s.shadow).image at (length bytes / 512) all fits (blocks_of bytes) (length-blocks_of bytes) long) (w.done told);
+      stopped = on_err_weaker r (λ mix. shadow-mix s.blocks (live s.areas) m (disk_of s.shadow).image at (length bytes / 512) all fits (blocks_of bytes) (disk_of X).image (length-blocks_of bytes) mix) (w.failed told);
+    }
+
+  -- by the memory, which is in step
+  split_there : IsKnown s → AreSplit s at (length bytes / 512) → (i : ℕ) → at ≤ i → i < at + length bytes / 512 → state_on (live s.areas) (i / 64) ≡ 2
+  split_there kn all i low high = sym (kn.step.each (i / 64) (omega (arith, high, fits))) ∙ all.each (i / 64) (omega (arith, low)) (omega (arith, high))
+
+  pub puts_shadow : {T E : Type 0} (r : Result T E) → is_some X ≡ is_some s.shadow → s.blocks ≤ (disk_of s.shadow).size → Writes (disk_of s.shadow) at bytes r (disk_of X) → PutsShadow s at bytes r (record s { shadow = X })
+  puts_shadow r still room w = record {
+    rest = refl;
+    there = still;
+    writes = w;
+    behind = λ told. record { behind = λ i past. (w.within told).outside i (inr (omega (arith, fits, past))) };
+    known = λ kn. record { shadow = w.told kn.shadow; bitmap = kn.bitmap; step = record { each = kn.step.each } };
+    seen = λ kn all m. puts_image (split_there kn all) (omega (arith, room, kn.shadow)) kn.shadow m r w;
+  }
 
 module _ (a b : ChunkSet) (m m' : Seen) (at : ℕ) (bytes : List ℕ) (some : 0 < length bytes) (whole : 512 * (length bytes / 512) ≡ length bytes) (fits : at + length bytes / 512 ≤ a.blocks) where
   same_end : chunks_end at (length (blocks_of bytes)) ≡ chunks_end at (length bytes / 512)
@@ -72,6 +101,9 @@ module _ (a b : ChunkSet) (m m' : Seen) (at : ℕ) (bytes : List ℕ) (some : 0 
     image : IsKnown a → IsTold m → shadow_image b m'.image ≡ shadow_image a m.image
     image kn td = shadow_kept a b m.image m'.image p.keeps.shape.blocks (p.keeps.blocks kn td)
 
+    puts : {T E : Type 0} → IsKnown a → (r : Result T E) → Writes (disk_of b.shadow) at bytes r (disk_of X) → PutsImage b m'.image at (blocks_of bytes) r written
+    puts kn r w = puts_image b X at bytes fits_b (all_split kn) (long_b kn) (told_b kn) m'.image r w
+
     abbrev put_work : ChunkDisk → ℕ
     put_work Master = 0
     put_work Shadow = length bytes / 512
@@ -98,29 +130,22 @@ module _ (a b : ChunkSet) (m m' : Seen) (at : ℕ) (bytes : List ℕ) (some : 0 
       behind = λ told. record {
         behind = λ i past. (w.within ((p.keeps.goes.lasts Shadow).told told)).outside i (inr (omega (arith, fits, past))) ∙ (p.keeps.behind told).behind i past;
       };
-      master = λ kn td. record {
-        image = master-kept b.blocks (live b.areas) m'.image (disk_of b.shadow).image at (length bytes / 512) (all_split kn) fits_b (disk_of X).image (w.within (told_b kn))
-            ∙ master_kept a b m.image m'.image p.keeps.shape.blocks (p.keeps.blocks kn td);
-        alike = λ al. record {
-          same = λ i lt one.
-              alike-kept b.blocks (live b.areas) m'.image (disk_of b.shadow).image at (length bytes / 512) (all_split kn) fits_b (disk_of X).image (w.within (told_b kn)) i one
-              ∙ ((p.keeps.blocks kn td).alike al).same i lt one;
-        };
-      };
+      master = λ kn td.
+          let put = puts kn r w in
+          record {
+            image = put.master ∙ master_kept a b m.image m'.image p.keeps.shape.blocks (p.keeps.blocks kn td);
+            alike = λ al. record { same = λ i lt one. (put.alike (record { same = λ j lt' one'. ((p.keeps.blocks kn td).alike al).same j (omega (arith, lt', p.keeps.shape.blocks)) one' })).same i (omega (arith, lt, p.keeps.shape.blocks)) one };
+          };
       done = λ kn td. on_ok_weaker r (λ done. record {
-        image =
-            ap (λ (l : Image). shadow_by b.blocks (live b.areas) l m'.image) done
-            ∙ shadow-put b.blocks (live b.areas) m'.image (disk_of b.shadow).image at (length bytes / 512) (all_split kn) fits_b (blocks_of bytes) (length-blocks_of bytes) (long_b kn)
-            ∙ ap (λ (l : Image). put l at (blocks_of bytes)) (image kn td);
+        image = done ∙ ap (λ (l : Image). put l at (blocks_of bytes)) (image kn td);
         split = subst (λ (k : ℕ). Splits (disk_state a) (disk_state written) (chunks_of a) (first_segment at) k) (sym same_end) (p.done kn);
         known = record { shadow = w.told (told_b kn); bitmap = (p.known kn).bitmap; step = record { each = (p.known kn).step.each } };
-      }) (w.done (told_b kn));
+      }) (puts kn r w).done;
       stopped = λ kn td. on_err_weaker r (λ mix. record {
         saved = record { upto = chunks_end at (length (blocks_of bytes)); low = omega (arith, same_end); high = omega arith; splits = subst (λ (k : ℕ). Splits (disk_state a) (disk_state written) (chunks_of a) (first_segment at) k) (sym same_end) (p.done kn) };
         before = λ less. absurd (never less);
-        mix = subst (λ (l : Image). IsMix l at (blocks_of bytes) (shadow_image written m'.image)) (image kn td)
-            (shadow-mix b.blocks (live b.areas) m'.image (disk_of b.shadow).image at (length bytes / 512) (all_split kn) fits_b (blocks_of bytes) (disk_of X).image (length-blocks_of bytes) mix);
-      }) (w.failed (told_b kn));
+        mix = subst (λ (l : Image). IsMix l at (blocks_of bytes) (shadow_image written m'.image)) (image kn td) mix;
+      }) (puts kn r w).stopped;
       adds = adds_as (disk_at a m) (disk_at written m') (λ d. range_work a (first_segment at) (chunks_end at (length bytes / 512) - first_segment at) d + put_work d) (write_work a (first_segment at) (touch_count at (length bytes / 512)) (length bytes / 512)) r work_is
           (adds_then (disk_at a m) (disk_at b m') (disk_at written m') (range_work a (first_segment at) (chunks_end at (length bytes / 512) - first_segment at)) put_work x r p.adds (put_adds r w));
     }

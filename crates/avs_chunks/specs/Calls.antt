@@ -1,13 +1,13 @@
 -- What each call on the contents makes of a set and its master.
-use Rattle.std.specs.Prelude.{◌≡◌, ◌≢◌, ◌⊎◌, ℕ, ◌/◌, ◌<◌, ◌≤◌, IsTrue, List, length, is_some, Result, OnOk, OnErr, IsOk}
-use Rattle.avs_seg.specs.Image.{Image, block_at, blocks_of, range}
-use Rattle.avs_seg.specs.Segment.{seg_len}
+use Rattle.std.specs.Prelude.{◌≡◌, ◌≢◌, ◌⊎◌, ℕ, ◌+◌, ◌/◌, ◌<◌, ◌≤◌, IsTrue, List, length, is_some, Result, OnOk, OnErr, IsOk}
+use Rattle.avs_seg.specs.Image.{Image, block_at, put, blocks_of, range, IsMix}
+use Rattle.avs_seg.specs.Segment.{seg_len, seg_count, first_segment}
 use Rattle.avs_dev.specs.Seen.{Seen, IsTold, Writes}
 use Rattle.avs_dev.specs.Devices.{AllGoOn}
 use Rattle.avs_flip.specs.Areas.{staged}
 use Rattle.avs_model.specs.declared.shadow.Kind.TheVariants.{Ind}
 use Rattle.avs_chunks.specs.States.{on_master, on_both, split, on_shadow, SetsOne, AreSame}
-use Rattle.avs_chunks.specs.ChunkSet.{ChunkSet, disk_of, state_of, disk_state, chunks_of, shadow_block, master_block, shadow_image, IsAlike, IsKnown, IsCleanOnDisk}
+use Rattle.avs_chunks.specs.ChunkSet.{ChunkSet, disk_of, state_of, disk_state, chunks_of, shadow_block, master_block, shadow_image, master_image, IsAlike, IsKnown, IsCleanOnDisk}
 use Rattle.avs_chunks.specs.Disks.{disk_at, settle_work, copy_work, Adds}
 
 -- what no call on the contents changes
@@ -95,11 +95,26 @@ pub record ReadsShadow {T E : Type 0} (old : ChunkSet) (m : Seen) (at : ℕ) (ou
   pub sure : IsTrue m.steady → IsTrue (disk_of old.shadow).steady → IsOk result
   pub shows : IsKnown old → IsTold m → OnOk result (blocks_of out ≡ range (shadow_image old m.image) at (length out / 512))
 
--- blocks are written on the shadow's disk, and nothing else changes
+-- the chunks of a range are split, by the memory
+pub record AreSplit (s : ChunkSet) (at len : ℕ) : Type 0 where
+  pub each : (c : ℕ) → first_segment at ≤ c → c < seg_count (at + len) → state_of s c ≡ split
+
+-- Blocks put on the shadow's disk in split chunks are put into the shadow's image, over any image of the master's disk, and the
+-- master's image stays.
+pub record PutsImage {T E : Type 0} (old : ChunkSet) (m : Image) (at : ℕ) (bs : Image) (result : Result T E) (new : ChunkSet) : Type 0 where
+  pub master : master_image new m ≡ master_image old m
+  pub alike : IsAlike old m → IsAlike new m
+  pub done : OnOk result (shadow_image new m ≡ put (shadow_image old m) at bs)
+  pub stopped : OnErr result (IsMix (shadow_image old m) at bs (shadow_image new m))
+
+-- Blocks are written on the shadow's disk, and nothing else changes. Where their chunks are split, both images are told.
 pub record PutsShadow {T E : Type 0} (old : ChunkSet) (at : ℕ) (bytes : List ℕ) (result : Result T E) (new : ChunkSet) : Type 0 where
   pub rest : new ≡ record old { shadow = new.shadow }
   pub there : is_some new.shadow ≡ is_some old.shadow
   pub writes : Writes (disk_of old.shadow) at bytes result (disk_of new.shadow)
+  pub behind : IsTold (disk_of old.shadow) → KeepsBehind old new
+  pub known : IsKnown old → IsKnown new
+  pub seen : IsKnown old → AreSplit old at (length bytes / 512) → (m : Image) → PutsImage old m at (blocks_of bytes) result new
 
 -- A chunk that stands on the master alone is copied to the shadow, and its state stays: nothing that is seen changes.
 pub record CopiesAhead {T E : Type 0} (old : ChunkSet) (m : Seen) (chunk : ℕ) (result : Result T E) (new : ChunkSet) (m_new : Seen) : Type 0 where

@@ -1,22 +1,13 @@
 -- Copy steps: the least chunk that stands on one disk alone is copied to the other.
-use Rattle.std.specs.Prelude.{◌≡◌, ℕ, ◌<◌, ◌==◌, Bool, true, false, ◌&&◌, ◌||◌, Option, None, Some, IfSome, IfNone, Result, IfOk, filter, length}
+use Rattle.std.specs.Prelude.{◌≡◌, ℕ, ◌<◌, ◌==◌, Bool, true, false, Option, None, Some, IfSome, IfNone, Result, IfOk, filter, length}
 use Rattle.std.specs.List.{range_with_len}
 use Rattle.avs_dev.specs.Seen.{Seen}
 use Rattle.avs_model.specs.declared.shadow.Kind.{Kind}
 use Rattle.avs_model.specs.declared.shadow.Kind.TheVariants.{Ind, Dep, Compact}
 use Rattle.avs_chunks.specs.States.{on_master, on_both, split, on_shadow}
+use Rattle.avs_chunks.specs.Due.{is_independent, is_due}
 use Rattle.avs_chunks.specs.ChunkSet.{ChunkSet, chunks_of, state_of}
 use Rattle.avs_chunks.specs.Calls.{DoesNothing, Settles}
-
--- whether a set is independent
-abbrev pub is_independent : Kind → Bool
-is_independent Ind = true
-is_independent Dep = false
-is_independent Compact = false
-
--- a chunk in this state is to be copied: it stands on the shadow alone, or is one of an independent set on the master alone
-abbrev pub is_due : Bool → ℕ → Bool
-is_due independent state = state == on_shadow || (independent && state == on_master)
 
 -- the least chunk below an end that is to be copied, and None where there is none
 pub record FindsDue (states : ℕ → ℕ) (independent : Bool) (end : ℕ) (result : Option ℕ) : Type 0 where

@@ -1,4 +1,5 @@
 pub mod States
+pub mod Due
 pub mod ChunkSet
 pub mod Disks
 pub mod Steps

@@ -125,7 +125,7 @@ pub record StagesPart {T E : Type 0} (old : ChunkSet) (m : Seen) (part : ℕ) (b
 
 -- what is staged on the disk is what is staged in memory: every part was staged
 pub record IsReady (s : ChunkSet) : Type 0 where
-  pub each : (c : ℕ) → staged_state s c ≡ next_of s c
+  pub each : (c : ℕ) → c < chunks_of s → staged_state s c ≡ next_of s c
 
 -- The other area is live, and the memory has the states that were staged. Where every part was, the set is in step.
 pub record TurnsSet (old new : ChunkSet) : Type 0 where

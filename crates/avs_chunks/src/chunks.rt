@@ -38,6 +38,8 @@ pub struct Chunks<D: Disk> {
     // The staged states, as they lie on the disk once all parts are staged.
     pub(crate) next: Vec<u8>,
     pub(crate) blocks: u32,
+    // No chunk below this one is to be copied.
+    pub(crate) low: u32,
     // Room for a chunk.
     pub(crate) buffer: Vec<u8>,
 }
@@ -50,7 +52,7 @@ impl<D: Disk> Model for Chunks<D> {
 
     ghost view = { λ s. record { kind = s.kind; shadow = option_map D.seen s.shadow; areas = s.flip; memory = s.memory.items; next = s.next.items; blocks = s.blocks } };
 
-    ghost invariant = { λ s. IsKept (option_map D.seen s.shadow) s.flip s.memory.items s.next.items s.buffer.items s.blocks };
+    ghost invariant = { λ s. IsKept s.kind (option_map D.seen s.shadow) s.flip s.memory.items s.next.items s.buffer.items s.blocks s.low };
 }
 
 impl<D: Disk> Chunks<D> {
@@ -140,7 +142,7 @@ impl<D: Disk> Chunks<D> {
         live_b: bool,
         room: Room,
     ) -> Chunks<D>
-        requires { IsKept (option_map D.seen shadow) (areas_on (D.seen bitmap) blocks live_b) room.memory.items room.next.items room.buffer.items blocks }
+        requires { IsKept kind (option_map D.seen shadow) (areas_on (D.seen bitmap) blocks live_b) room.memory.items room.next.items room.buffer.items blocks 0 }
         ensures { result ≡ record { kind = kind; shadow = option_map D.seen shadow; areas = areas_on (D.seen bitmap) blocks live_b; memory = room.memory.items; next = room.next.items; blocks = blocks } }
     {
         let Room {
@@ -155,6 +157,7 @@ impl<D: Disk> Chunks<D> {
             memory,
             next,
             blocks,
+            low: 0,
             buffer,
         }
     }

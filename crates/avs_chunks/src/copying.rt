@@ -1,8 +1,9 @@
 // Copy steps, and how many of them are left.
-ghost use Rattle.std.specs.Prelude.{◌≡◌, ◌*◌, ◌/◌, ◌<◌, ◌≤◌, ◌^◌, IsTrue, is_some, length};
+ghost use Rattle.std.specs.Prelude.{◌≡◌, ◌*◌, ◌/◌, ◌<◌, ◌≤◌, ◌^◌, IsTrue, not, is_some, length};
 ghost use Rattle.avs_chunks.specs.States.{code_of, state_in};
-ghost use Rattle.avs_chunks.specs.ChunkSet.{chunks_of, state_of};
-ghost use Rattle.avs_chunks.specs.Copying.{FindsDue, CopiesOne, is_independent, is_due, back_of, left_of, moved_of};
+ghost use Rattle.avs_chunks.specs.ChunkSet.{IsSettled, CanSave, chunks_of, state_of};
+ghost use Rattle.avs_chunks.specs.Due.{is_independent, is_due, NoneDue};
+ghost use Rattle.avs_chunks.specs.Copying.{FindsDue, CopiesOne, back_of, left_of, moved_of};
 
 use crate::chunks::Chunks;
 use crate::states::{ChunkState, count_in, state_in};
@@ -32,14 +33,16 @@ fn is_due(independent: bool, state: ChunkState) -> bool
     }
 }
 
-// The least chunk below an end that is to be copied. Words of chunks of which none is are passed at once.
-fn first_due(bytes: &[u8], end: u32, independent: bool) -> Option<u32>
+// The least chunk below an end that is to be copied, where none below `low` is. Words of chunks of which none is are passed
+// at once.
+fn first_due(bytes: &[u8], low: u32, end: u32, independent: bool) -> Option<u32>
+    requires passed { NoneDue (state_in bytes.now) independent low }
     requires inside { end ≤ 4 * length bytes.now }
     requires whole { 8 * (length bytes.now / 8) ≡ length bytes.now }
     requires small { end < 2 ^ 31 }
     ensures { FindsDue (state_in bytes.now) independent end result }
 {
-    let mut chunk = 0;
+    let mut chunk = low;
     while chunk < end {
         if can_pass(bytes, chunk, independent) {
             chunk += WORD;
@@ -57,11 +60,34 @@ impl<D: Disk> Chunks<D> {
     fn next_due(&self) -> Option<u32>
         ensures { FindsDue (state_of self.now) (is_independent self.now.kind) (chunks_of self.now) result }
     {
-        first_due(
-            &self.memory,
-            seg_count(self.blocks),
-            is_independent(self.kind),
-        )
+        let chunks = seg_count(self.blocks);
+        first_due(&self.memory, self.low, chunks, is_independent(self.kind))
+    }
+
+    // The same. Chunks below it, or all where there is none, are not looked at again.
+    fn pass_to_due(&mut self) -> Option<u32>
+        ensures finds { FindsDue (state_of self.old) (is_independent self.old.kind) (chunks_of self.old) result }
+        ensures same { self.new ≡ self.old }
+    {
+        let due = self.next_due();
+        self.low = due.unwrap_or(seg_count(self.blocks));
+        due
+    }
+
+    // Whether the set is independent and no chunk of it is to be copied.
+    fn is_settled(&self) -> bool
+        ensures settled { IsTrue result → IsSettled self.now }
+        ensures unsettled { IsTrue (not result) → IsSettled self.now → ⊥ }
+    {
+        is_independent(self.kind) && self.next_due().is_none()
+    }
+
+    /// Whether chunks can be saved: the shadow's disk is there, or the set is independent and no chunk of it is to be copied.
+    pub fn can_save(&self) -> bool
+        ensures can { IsTrue result → CanSave self.now }
+        ensures cannot { IsTrue (not result) → CanSave self.now → ⊥ }
+    {
+        self.shadow.is_some() || self.is_settled()
     }
 
     /// Copies the least chunk that stands on the shadow alone, or of an independent set on the master alone, to the other
@@ -71,7 +97,7 @@ impl<D: Disk> Chunks<D> {
         requires there { IsTrue (is_some self.old.shadow) }
         ensures { CopiesOne self.old (D.seen master.old) result self.new (D.seen master.new) }
     {
-        let Some(chunk) = self.next_due() else {
+        let Some(chunk) = self.pass_to_due() else {
             return Ok(None);
         };
         self.settle(master, chunk, ChunkState::OnBoth)?;

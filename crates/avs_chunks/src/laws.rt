@@ -4,7 +4,7 @@ ghost use Rattle.avs_seg.specs.Segment.{seg_len};
 ghost use Rattle.avs_model.specs.ShadowSets.{ShadowState};
 ghost use Rattle.avs_model.specs.GroupWork.{mark_work, copy_work, blocks_on_spot};
 ghost use Rattle.avs_chunks.specs.ChunkSet.{ChunkSet, chunks_of, state_of};
-ghost use Rattle.avs_chunks.specs.Copying.{is_independent, is_due};
+ghost use Rattle.avs_chunks.specs.Due.{is_independent, is_due};
 ghost use Rattle.avs_chunks.specs.Disks.{ChunkDisk, save_work, settle_work};
 ghost use Rattle.avs_chunks.specs.Working.{StandsFor, spot_of};
 

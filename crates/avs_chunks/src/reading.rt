@@ -1,10 +1,10 @@
-// Reads and writes of the shadow's blocks.
+// Reads of the shadow's blocks.
 ghost use Rattle.std.specs.Prelude.{◌≡◌, ◌+◌, ◌*◌, ◌/◌, ◌<◌, ◌≤◌, IsTrue, is_some, length};
 ghost use Rattle.avs_chunks.specs.ChunkSet.{IsOnePlace};
-ghost use Rattle.avs_chunks.specs.Calls.{ReadsShadow, PutsShadow};
+ghost use Rattle.avs_chunks.specs.Calls.{ReadsShadow};
 
 use crate::chunks::Chunks;
-use crate::copies::{read_one, write_there};
+use crate::copies::read_one;
 use crate::states::{ChunkState, is_in, run_end};
 use avs_dev::Disk;
 use avs_seg::{BLOCK, Failed, SEGMENT, seg_count};
@@ -62,16 +62,5 @@ impl<D: Disk> Chunks<D> {
             done += len;
         }
         Ok(())
-    }
-
-    /// Writes blocks on the shadow's disk alone. Their chunks are split before.
-    pub fn put_shadow(&mut self, at: u32, bytes: &[u8]) -> Result<(), Failed>
-        requires some { 0 < length bytes.now }
-        requires whole { 512 * (length bytes.now / 512) ≡ length bytes.now }
-        requires inside { at + length bytes.now / 512 ≤ self.old.blocks }
-        requires there { IsTrue (is_some self.old.shadow) }
-        ensures { PutsShadow self.old at bytes.now result self.new }
-    {
-        write_there(&mut self.shadow, at, bytes)
     }
 }

@@ -123,5 +123,6 @@ impl<D: Disk> Chunks<D> {
     {
         self.flip.turn();
         mem::swap(&mut self.memory, &mut self.next);
+        self.low = 0;
     }
 }

@@ -1,7 +1,7 @@
 // The states of 32 chunks at once, as a word: chunk j has the two bits from 2 * j on.
 ghost use Rattle.std.specs.Prelude.{◌≡◌, ℕ, ◌+◌, ◌*◌, ◌/◌, ◌%◌, ◌^◌, ◌<◌, ◌≤◌, true, false, length};
 ghost use Rattle.avs_chunks.specs.States.{state_in};
-ghost use Rattle.avs_chunks.specs.Copying.{is_due};
+ghost use Rattle.avs_chunks.specs.Due.{is_due};
 
 /// The chunks whose states a word has.
 pub(crate) const WORD: u32 = 32;

@@ -1,6 +1,7 @@
 // Writes to the shadow.
 ghost use Rattle.std.specs.Prelude.{◌≡◌, ◌+◌, ◌*◌, ◌/◌, ◌<◌, ◌≤◌, IsTrue, is_some, length};
 ghost use Rattle.avs_chunks.specs.ChunkSet.{CanSave, chunks_of};
+ghost use Rattle.avs_chunks.specs.Calls.{PutsShadow};
 ghost use Rattle.avs_chunks.specs.Writing.{SavesRange, WritesShadow};
 
 use crate::chunks::Chunks;
@@ -35,6 +36,17 @@ impl<D: Disk> Chunks<D> {
     {
         let len = (bytes.len() / BLOCK) as u32;
         self.save_range(master, at / SEGMENT, seg_count(at + len))?;
+        write_there(&mut self.shadow, at, bytes)
+    }
+
+    /// Writes blocks on the shadow's disk alone. Their chunks are split before.
+    pub fn put_shadow(&mut self, at: u32, bytes: &[u8]) -> Result<(), Failed>
+        requires some { 0 < length bytes.now }
+        requires whole { 512 * (length bytes.now / 512) ≡ length bytes.now }
+        requires inside { at + length bytes.now / 512 ≤ self.old.blocks }
+        requires there { IsTrue (is_some self.old.shadow) }
+        ensures { PutsShadow self.old at bytes.now result self.new }
+    {
         write_there(&mut self.shadow, at, bytes)
     }
 }

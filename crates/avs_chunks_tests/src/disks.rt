@@ -2,11 +2,11 @@
 
 use crate::plain::BLOCKS;
 use crate::sets::{
-    again, bitmap_blocks, byte_in, copy, disk, has, made, moved_part, put_blocks, read, same,
-    sizes, write,
+    again, bitmap_blocks, copy, disk, give, has, made, moved_part, put_blocks, same, sees, sizes,
+    write,
 };
 use avs_chunks::Chunks;
-use avs_dev::{Back, Closed2, Disk, MemDisk, Why};
+use avs_dev::{Arm, Back, Closed2, Disk, MemDisk, Tear, Why};
 use avs_model::Kind;
 use avs_seg::BLOCK;
 use std::alloc::Global;
@@ -17,17 +17,6 @@ fn take(rt: &impl Abort, set: &mut Chunks<MemDisk>) -> MemDisk {
         Some(shadow) => shadow,
         None => panic!(rt; "a shadow"),
     }
-}
-
-fn give(rt: &impl Abort, set: &mut Chunks<MemDisk>, shadow: MemDisk) {
-    assert!(rt; !set.has_shadow() && set.blocks() <= shadow.blocks());
-    set.give_shadow(shadow);
-}
-
-fn sees(rt: &impl Abort, set: &mut Chunks<MemDisk>, master: &mut MemDisk, at: u32, want: u8) {
-    let mut block = [0; BLOCK];
-    read(rt, set, master, at, &mut block);
-    same(rt, byte_in(rt, &block, 0), want);
 }
 
 fn copies(rt: &impl Abort, set: &mut Chunks<MemDisk>, master: &mut MemDisk, want: Option<u32>) {
@@ -101,10 +90,9 @@ fn disks_that_are_small_or_fail_are_handed_back(rt: HostRuntime) {
     }
 }
 
-fn why_lost(
-    rt: &impl Abort,
-    loaded: Result<Chunks<MemDisk>, Back<(Option<MemDisk>, MemDisk), Why>>,
-) -> Why {
+type Loaded = Result<Chunks<MemDisk>, Back<(Option<MemDisk>, MemDisk), Why>>;
+
+fn why_lost(rt: &impl Abort, loaded: Loaded) -> Why {
     match loaded {
         Ok(_) => panic!(rt; "it was found"),
         Err(back) => back.why,
@@ -137,5 +125,54 @@ fn a_label_of_another_set_is_refused_by_its_field(rt: HostRuntime) {
         (511, 6),
     ] {
         altered(&rt, rt.alloc(), place, field);
+    }
+}
+
+// A new set of these disks, as it is found again.
+fn is_found(rt: &impl Abort, loaded: Loaded) -> bool {
+    match loaded {
+        Ok(set) => {
+            same(rt, sizes(&set), (BLOCKS.div_ceil(64), 0, 0));
+            true
+        }
+        Err(back) => {
+            same(rt, back.why, Why::BadRecord(0));
+            false
+        }
+    }
+}
+
+// A stop at a write of a new set, after so many others. Says whether a set is found then.
+fn torn_make(rt: &impl Abort, alloc: Global, skip: u32, count: u32) -> bool {
+    let shadow = disk(rt, alloc, BLOCKS, &[]);
+    let mut bitmap = disk(rt, alloc, bitmap_blocks(BLOCKS), &[]);
+    let tear = Tear {
+        skip,
+        from: 0,
+        count,
+    };
+    assert!(rt; bitmap.arm(tear));
+    match Chunks::make(alloc, Kind::Ind, shadow, bitmap, BLOCKS) {
+        Ok(_) => panic!(rt; "a stop"),
+        Err(back) => {
+            same(rt, back.why, Why::Fault);
+            let (shadow, bitmap) = back.parts;
+            let loaded = Chunks::load(alloc, Kind::Ind, Some(shadow), bitmap, BLOCKS, false);
+            is_found(rt, loaded)
+        }
+    }
+}
+
+#[test]
+fn a_set_that_is_made_in_part_is_found_by_its_label(rt: HostRuntime) {
+    for (skip, count, want) in [
+        (0, 0, false),
+        (0, 1, true),
+        (1, 0, true),
+        (1, 1, true),
+        (2, 0, true),
+        (2, 1, true),
+    ] {
+        same(&rt, torn_make(&rt, rt.alloc(), skip, count), want);
     }
 }

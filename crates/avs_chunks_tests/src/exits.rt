@@ -119,6 +119,20 @@ fn writes_to_a_shadow_save_its_own_chunks(rt: HostRuntime) {
 }
 
 #[test]
+fn chunks_are_saved_and_then_blocks_are_put(rt: HostRuntime) {
+    let last = Step::Puts(First, 66, 70, 0x11);
+    each_stop(&rt, rt.alloc(), DEP_IND, &[last], (0, (3, 2), (0, 0)));
+    let steps = [
+        Step::Shadow(First, 70, 60, 0x22),
+        Step::Restore(First, Turned),
+        last,
+    ];
+    each_stop(&rt, rt.alloc(), IND_DEP, &steps, (2, (1, 2), (0, 0)));
+    let steps = [last, Step::Puts(First, 64, 64, 0x33)];
+    each_stop(&rt, rt.alloc(), DEP_IND, &steps, (0, (1, 0), (0, 0)));
+}
+
+#[test]
 fn copy_steps_go_to_the_shadow_or_to_the_master(rt: HostRuntime) {
     let last = Step::Copy(First);
     each_stop(&rt, rt.alloc(), DEP_IND, &[last], (0, (0, 0), (0, 0)));
@@ -161,7 +175,8 @@ fn updates_to_the_shadow_are_staged_alone(rt: HostRuntime) {
     }
 }
 
-// The master becomes the shadow: the other set gets the chunks before that the master is to lose.
+// The master becomes the shadow: the other set gets the chunks before that the master is to lose. Those of the first set are
+// staged by one call, those of the second one by two.
 fn restores(rt: &impl Abort, alloc: Global, kinds: (Kind, Kind)) {
     let (before, also) = (
         Step::Shadow(First, 60, 10, 0x22),
@@ -169,6 +184,17 @@ fn restores(rt: &impl Abort, alloc: Global, kinds: (Kind, Kind)) {
     );
     let last = Step::Restore(First, Turned);
     each_stop(rt, alloc, kinds, &[before, also, last], (0, (0, 1), (2, 1)));
+    let (other, second) = (
+        Step::Shadow(Second, 60, 10, 0x22),
+        Step::Restore(Second, Turned),
+    );
+    each_stop(
+        rt,
+        alloc,
+        kinds,
+        &[other, also, second],
+        (0, (2, 1), (0, 1)),
+    );
     for how in [Lost, Kept] {
         same(
             rt,

@@ -2,8 +2,8 @@
 
 use crate::plain::{BLOCKS, CHUNKS, Image, Plain, put, size, touches};
 use crate::sets::{
-    again, byte_in, copy, disk, has, made, moved_part, put_blocks, read, room, same, save_all,
-    sizes, stage, state, write,
+    again, byte_in, copy, disk, has, made, moved_part, put_blocks, put_there, read, room, same,
+    save_all, save_range, sizes, stage, stage_apart, state, write,
 };
 use avs_chunks::{ChunkState, Chunks};
 use avs_dev::{Arm, Disk, MemDisk, Tear};
@@ -43,6 +43,8 @@ pub enum Commit {
 pub enum Step {
     Master(u32, u32, u8),
     Shadow(Who, u32, u32, u8),
+    /// The same by two calls: the chunks are saved, and then the blocks are put.
+    Puts(Who, u32, u32, u8),
     Copy(Who),
     /// The shadow becomes the master, by a whole copy or not.
     Renew(Who, bool, Commit),
@@ -50,6 +52,13 @@ pub enum Step {
     Restore(Who, Commit),
     /// After so many further writes of a disk the next one stores so many of its blocks, from one on, and fails.
     Tear(Spot, u32, u32, u32),
+}
+
+// By how many calls a step is done that one call does too.
+#[derive(Clone, Copy)]
+enum Calls {
+    One,
+    Two,
 }
 
 /// How a step ends.
@@ -112,6 +121,7 @@ fn write_master(
     End::Done
 }
 
+// Blocks of a shadow are written by one call or by two.
 fn write_shadow(
     rt: &impl Abort,
     set: &mut Chunks<MemDisk>,
@@ -119,8 +129,13 @@ fn write_shadow(
     plain: &mut Plain,
     (at, count, byte): (u32, u32, u8),
     bytes: &[u8],
+    calls: Calls,
 ) -> End {
-    if !write(rt, set, master, at, bytes) {
+    let is_done = match calls {
+        Calls::One => write(rt, set, master, at, bytes),
+        Calls::Two => save_range(rt, set, master, at, count) && put_there(rt, set, at, bytes),
+    };
+    if !is_done {
         return End::Stopped;
     }
     put(&mut plain.shadow, at, count, byte);
@@ -181,6 +196,20 @@ fn renew(
     end_of(how)
 }
 
+// The chunks of a part that the master is to lose are staged as split, by one call or by two.
+fn stage_other(
+    rt: &impl Abort,
+    other: &mut Chunks<MemDisk>,
+    master: &mut MemDisk,
+    split: &[u8; 256],
+    calls: Calls,
+) -> bool {
+    match calls {
+        Calls::One => stage(rt, other, master, 0, split),
+        Calls::Two => stage_apart(rt, other, master, 0, split),
+    }
+}
+
 // The other set gets the chunks first that the master is to lose.
 fn restore(
     rt: &impl Abort,
@@ -189,9 +218,10 @@ fn restore(
     master: &mut MemDisk,
     image: &mut Image,
     how: Commit,
+    calls: Calls,
 ) -> End {
     let moved = moved_part(rt, set, 0);
-    if !stage(rt, other, master, 0, &moved) || set.turn_to_master().is_err() {
+    if !stage_other(rt, other, master, &moved, calls) || set.turn_to_master().is_err() {
         return End::Stopped;
     }
     let kept = turned(other, beside, how);
@@ -245,6 +275,7 @@ fn act_on(
             master,
             image,
             how,
+            Calls::One,
         ),
         Step::Restore(Who::Second, how) => restore(
             rt,
@@ -253,8 +284,26 @@ fn act_on(
             master,
             image,
             how,
+            Calls::Two,
         ),
         _ => End::Done,
+    }
+}
+
+// Blocks of one of the two shadows are written.
+fn write_one(
+    rt: &impl Abort,
+    alloc: Global,
+    (first, second): (&mut Chunks<MemDisk>, &mut Chunks<MemDisk>),
+    master: &mut MemDisk,
+    plains: &mut Plains,
+    (who, calls): (Who, Calls),
+    range: (u32, u32, u8),
+) -> End {
+    let bytes = room(rt, alloc, range.1, range.2);
+    match who {
+        Who::First => write_shadow(rt, first, master, &mut plains.first, range, &bytes, calls),
+        Who::Second => write_shadow(rt, second, master, &mut plains.second, range, &bytes, calls),
     }
 }
 
@@ -272,27 +321,13 @@ fn act(
             let bytes = room(rt, alloc, count, byte);
             write_master(rt, first, second, master, plains, (at, count, byte), &bytes)
         }
-        Step::Shadow(Who::First, at, count, byte) => {
-            let bytes = room(rt, alloc, count, byte);
-            write_shadow(
-                rt,
-                first,
-                master,
-                &mut plains.first,
-                (at, count, byte),
-                &bytes,
-            )
+        Step::Shadow(who, at, count, byte) => {
+            let (sets, how) = ((first, second), (who, Calls::One));
+            write_one(rt, alloc, sets, master, plains, how, (at, count, byte))
         }
-        Step::Shadow(Who::Second, at, count, byte) => {
-            let bytes = room(rt, alloc, count, byte);
-            write_shadow(
-                rt,
-                second,
-                master,
-                &mut plains.second,
-                (at, count, byte),
-                &bytes,
-            )
+        Step::Puts(who, at, count, byte) => {
+            let (sets, how) = ((first, second), (who, Calls::Two));
+            write_one(rt, alloc, sets, master, plains, how, (at, count, byte))
         }
         Step::Tear(spot, skip, from, count) => {
             let tear = Tear { skip, from, count };
@@ -394,10 +429,10 @@ fn adopt(
         Step::Master(at, count, byte) => {
             torn_master(rt, first, second, master, plains, (at, count, byte), out)
         }
-        Step::Shadow(Who::First, at, count, byte) => {
+        Step::Shadow(Who::First, at, count, byte) | Step::Puts(Who::First, at, count, byte) => {
             torn_shadow(rt, first, master, &mut plains.first, (at, count, byte), out)
         }
-        Step::Shadow(Who::Second, at, count, byte) => {
+        Step::Shadow(Who::Second, at, count, byte) | Step::Puts(Who::Second, at, count, byte) => {
             torn_shadow(
                 rt,
                 second,
@@ -504,35 +539,21 @@ pub fn play(rt: &impl Abort, alloc: Global, kinds: (Kind, Kind), steps: &[Step])
     let mut left = steps.len();
     for &step in steps {
         left = left.saturating_sub(1);
-        let end = act(
-            rt,
-            alloc,
-            &mut first,
-            &mut second,
-            &mut master,
-            &mut plains,
-            step,
-        );
+        let (one, two) = (&mut first, &mut second);
+        let end = act(rt, alloc, one, two, &mut master, &mut plains, step);
         if end != End::Done {
             first = again(rt, alloc, first, plains.first.live_b);
             second = again(rt, alloc, second, plains.second.live_b);
         }
+        let (one, two) = (&mut first, &mut second);
         if end == End::Stopped {
-            adopt(
-                rt,
-                &mut first,
-                &mut second,
-                &mut master,
-                &mut plains,
-                step,
-                &mut out,
-            );
+            adopt(rt, one, two, &mut master, &mut plains, step, &mut out);
             stops = stops.saturating_add(1);
         }
-        check_lists(rt, &first, &plains.first);
-        check_lists(rt, &second, &plains.second);
+        check_lists(rt, one, &plains.first);
+        check_lists(rt, two, &plains.second);
         if end != End::Done || left % 8 == 0 {
-            check_images(rt, &mut first, &mut second, &mut master, &plains, &mut out);
+            check_images(rt, one, two, &mut master, &plains, &mut out);
         }
     }
     stops

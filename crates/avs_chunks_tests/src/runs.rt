@@ -55,7 +55,12 @@ fn any_step(seed: &mut u64) -> Step {
     }
     if kind < 8 {
         let (at, count, byte) = any_range(seed);
-        return Step::Shadow(any_who(seed), at, count, byte);
+        let who = any_who(seed);
+        return if kind == 5 {
+            Step::Puts(who, at, count, byte)
+        } else {
+            Step::Shadow(who, at, count, byte)
+        };
     }
     match kind {
         8..=11 => Step::Copy(any_who(seed)),

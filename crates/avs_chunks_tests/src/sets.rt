@@ -117,6 +117,30 @@ pub fn write(
     set.write(master, at, bytes).is_ok()
 }
 
+/// Saves the chunks of a range by one call.
+pub fn save_range(
+    rt: &impl Abort,
+    set: &mut Chunks<MemDisk>,
+    master: &mut MemDisk,
+    at: u32,
+    count: u32,
+) -> bool {
+    let first = at / 64;
+    let end = at.saturating_add(count).div_ceil(64);
+    assert!(rt; set.has_shadow() && master.blocks() == set.blocks());
+    assert!(rt; first <= end && end <= set.chunks());
+    set.save_range(master, first, end).is_ok()
+}
+
+/// Puts blocks on the shadow's disk alone.
+pub fn put_there(rt: &impl Abort, set: &mut Chunks<MemDisk>, at: u32, bytes: &[u8]) -> bool {
+    let count = bytes.len() / BLOCK;
+    assert!(rt; 0 < count && bytes.len() == BLOCK * count);
+    assert!(rt; set.has_shadow());
+    assert!(rt; count <= 4096 && at < 1 << 30 && at + count as u32 <= set.blocks());
+    set.put_shadow(at, bytes).is_ok()
+}
+
 /// Reads blocks of the shadow.
 pub fn read(
     rt: &impl Abort,
@@ -155,6 +179,19 @@ pub fn stage(
     set.stage_part(master, part, split).is_ok()
 }
 
+/// The same by two calls.
+pub fn stage_apart(
+    rt: &impl Abort,
+    set: &mut Chunks<MemDisk>,
+    master: &mut MemDisk,
+    part: u32,
+    split: &[u8; 256],
+) -> bool {
+    assert!(rt; part < 4 && 2048 * part < set.chunks());
+    assert!(rt; set.has_shadow() && master.blocks() == set.blocks());
+    set.copy_part(master, part, split).is_ok() && set.stage_split(part, split).is_ok()
+}
+
 /// Whether a bit stands for a chunk of a part.
 pub fn has(bits: &[u8; 256], place: u32) -> bool {
     place < 2048 && bits[place as usize / 8] >> (place % 8) & 1 == 1
@@ -186,4 +223,17 @@ pub fn byte_in(rt: &impl Abort, bytes: &[u8], place: u32) -> u8 {
     let block = &bytes[start..start + BLOCK];
     assert!(rt; block[0] == block[BLOCK - 1]);
     block[0]
+}
+
+/// Sees a byte in a block of the shadow.
+pub fn sees(rt: &impl Abort, set: &mut Chunks<MemDisk>, master: &mut MemDisk, at: u32, want: u8) {
+    let mut block = [0; BLOCK];
+    read(rt, set, master, at, &mut block);
+    same(rt, byte_in(rt, &block, 0), want);
+}
+
+/// Gives the shadow back.
+pub fn give(rt: &impl Abort, set: &mut Chunks<MemDisk>, shadow: MemDisk) {
+    assert!(rt; !set.has_shadow() && set.blocks() <= shadow.blocks());
+    set.give_shadow(shadow);
 }

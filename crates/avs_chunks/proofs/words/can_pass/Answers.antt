@@ -1,6 +1,6 @@
 use Rattle.std.proofs.Common.{◌≡◌, ℕ, ◌+◌, ◌-◌, ◌*◌, ◌/◌, ◌<◌, sym, ap, ◌∙◌, arith}
 use Rattle.avs_chunks.specs.States.{state_in}
-use Rattle.avs_chunks.specs.Copying.{is_due}
+use Rattle.avs_chunks.specs.Due.{is_due}
 use Rattle.avs_chunks.proofs.words.can_pass.Goals as goal
 
 pub returns-then-chunk-eq0 : goal.returns-then-chunk-eq0

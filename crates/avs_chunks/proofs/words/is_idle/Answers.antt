@@ -1,6 +1,6 @@
 use Rattle.std.proofs.Common.{rules, ◌≡◌, ◌*◌, ◌/◌, ◌%◌, ◌^◌, Bool, true, false, bit_and, sym, subst}
 use Rattle.std.proofs.lemmas.Bool.{eqb-true, false≢true}
-use Rattle.avs_chunks.specs.Copying.{is_due}
+use Rattle.avs_chunks.specs.Due.{is_due}
 use Rattle.avs_chunks.proofs.WordStates.{idle_if}
 use Rattle.avs_chunks.proofs.words.is_idle.Goals as goal
 

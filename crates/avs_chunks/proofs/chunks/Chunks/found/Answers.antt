@@ -1,4 +1,4 @@
-use Rattle.std.proofs.Common.{rules, ℕ, ◌∙◌, Some, subst, ap, List}
+use Rattle.std.proofs.Common.{rules, ℕ, ◌∙◌, Some, subst, ap, List, arith}
 use Rattle.avs_chunks.specs.Making.{HaveRoom}
 use Rattle.avs_chunks.specs.States.{state_in}
 use Rattle.avs_chunks.specs.ChunkSet.{ChunkSet, state_of}
@@ -17,6 +17,7 @@ over-requires g c = record {
   staged_clean = IsClean-zeros c.in-Ok.room.next.items _ _ c.in-Ok.ensures.next;
   chunk = search rules;
   small = search rules;
+  passed = record { each = λ k lt. absurd (omega (arith, lt)) };
 }
 
 pub returns-in-Ok-clause-found : goal.returns-in-Ok-clause-found

@@ -1,4 +1,4 @@
-use Rattle.std.proofs.Common.{rules, ℕ, Some, subst}
+use Rattle.std.proofs.Common.{rules, ℕ, Some, subst, arith}
 use Rattle.avs_chunks.specs.Making.{HaveRoom}
 use Rattle.avs_chunks.proofs.Formatting.{Makes-format, IsClean-zeros}
 use Rattle.avs_chunks.proofs.chunks.Chunks.make.Goals as goal
@@ -15,6 +15,7 @@ over-requires g c = record {
   staged_clean = IsClean-zeros c.in-Ok.room.next.items _ _ c.in-Ok.ensures.next;
   chunk = search rules;
   small = search rules;
+  passed = record { each = λ k lt. absurd (omega (arith, lt)) };
 }
 
 pub returns-in-Ok-format-clause-made : goal.returns-in-Ok-format-clause-made

@@ -1,12 +1,14 @@
-use Rattle.std.proofs.Common.{rules, ◌≡◌, ◌*◌, ℕ, List, Err, ap, subst, ◌∙◌}
+use Rattle.std.proofs.Common.{rules, ◌≡◌, ◌*◌, ℕ, List, length, Err, ap, subst, sym, ◌∙◌, arith}
 use Rattle.std.specs.Option.{option_map}
 use Rattle.std.specs.Vec.{with_items}
 use Rattle.std.proofs.lemmas.List.{with_items_is}
 use Rattle.avs_seg.specs.Segment.{seg_len}
 use Rattle.avs_chunks.specs.States.{state_in, code_of}
+use Rattle.avs_chunks.specs.Due.{is_independent, NoneDue}
 use Rattle.avs_chunks.specs.ChunkSet.{ChunkSet}
 use Rattle.avs_chunks.specs.Steps.{PutsState}
 use Rattle.avs_chunks.proofs.Copied.{copied_there}
+use Rattle.avs_chunks.proofs.Dues.{none_put}
 use Rattle.avs_chunks.proofs.Settled.{fails_copy, settles}
 use Rattle.avs_chunks.proofs.chunks.Chunks.settle.Goals as goal
 
@@ -22,6 +24,27 @@ returns-in_err-copy_chunk g c =
     (copied_there (code_of c.state_in-state.result) c.seg_span-span.result.at c.seg_span-span.result.len (state_in i.memory.items c.args.chunk) (64 * c.args.chunk) (seg_len c.args.chunk i.blocks) c.copy_chunk.result _ _ _ _
     state c.seg_span-span.ensures.at c.seg_span-span.ensures.len c.seg_span-span.ensures.some c.copy_chunk.ensures.copies)
     c.in_err-copy_chunk.field-0.0 c.in_err-copy_chunk.field-0.0 c.in_err-copy_chunk.was))
+
+pub invariant_of-self-2 : goal.invariant_of-self-2
+invariant_of-self-2 g c =
+    let i = c.self.inside in
+    let may = rw (← c.self.view_is) at c.requires.may in
+    let long : (with_items i.memory c.put_state.new.memory).items ≡ c.put_state.new.memory = with_items_is i.memory c.put_state.new.memory (search rules) in
+    let puts = subst (λ (l : List ℕ). PutsState i.flip l c.args.chunk (code_of c.args.target) c.put_state.result c.put_state.new.flip c.put_state.new.memory) c.deref_mut-2.ensures.value c.put_state.ensures in
+    record {
+      room = search rules;
+      first = search rules;
+      len = search rules;
+      fits = search rules;
+      states = search rules;
+      clean = search rules;
+      staged = search rules;
+      staged_clean = search rules;
+      chunk = rw (with_items_is i.buffer c.copy_chunk.new.buffer (search rules)) (omega (arith, c.copy_chunk.ensures.len, ap (λ (l : List ℕ). length l) c.deref_mut.ensures.value, c.self.invariant.chunk));
+      small = search rules;
+      passed = subst (λ (l : List ℕ). NoneDue (state_in l) (is_independent i.kind) i.low) (sym long)
+          (none_put (is_independent i.kind) i.flip i.memory.items i.low c.args.chunk (code_of c.args.target) c.put_state.result c.put_state.new.flip c.put_state.new.memory may.targets puts c.self.invariant.passed);
+    }
 
 pub returns : goal.returns
 returns g c =
