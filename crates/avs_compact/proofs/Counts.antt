@@ -48,7 +48,7 @@ one_more : (b : Bool) (x : ℕ) (l : List ℕ) → length (cond b (x ∷ l) l) �
 one_more true x l = omega arith
 one_more false x l = omega arith
 
-count_from : (p : ℕ → Bool) (a n : ℕ) → length (filter p (range_with_len a (suc n))) ≡ length (filter p (range_with_len a n)) + cond (p (a + n)) 1 0
+pub count_from : (p : ℕ → Bool) (a n : ℕ) → length (filter p (range_with_len a (suc n))) ≡ length (filter p (range_with_len a n)) + cond (p (a + n)) 1 0
 count_from p a zero =
     let here : a ≡ a + 0 = omega arith in
     one_more (p a) a [] ∙ ap (λ (k : ℕ). cond (p k) 1 0 + 0) here ∙ omega arith

@@ -1,6 +1,6 @@
 -- The label and the areas of a bitmap, written and read.
 use Rattle.std.proofs.Common.{◌≡◌, ◌≢◌, ◌⊎◌, inl, inr, ℕ, suc, ◌+◌, ◌-◌, ◌*◌, ◌/◌, ◌%◌, ◌^◌, ◌<◌, ◌≤◌, Bool, false, cond, eqb, List, [], ◌∷◌, length, replicate, Option, Some, Result, Ok, Err, refl, sym, ◌∙◌, ap, subst, arith}
-use Rattle.avs_seg.specs.Image.{Block, Image, block_at, range, put, blocks_of, blank, zero_block, IsMix}
+use Rattle.avs_seg.specs.Image.{Block, Image, block_at, range, put, blocks_of, blank, zero_block, IsMix, ChangesWithin}
 use Rattle.avs_seg.specs.Segment.{seg_count}
 use Rattle.avs_seg.proofs.Blocks.{same_images, length-tabulate, block_at-tabulate, length-blank, block_at-blank, same_place}
 use Rattle.avs_seg.proofs.Bytes.{blocks_of_one, blocks_of_zeros}
@@ -15,7 +15,7 @@ use Rattle.avs_compact.specs.Entries.{entry_in, entry_on, state_by, slot_by, are
 use Rattle.avs_compact.specs.CompactSet.{CompactSet, compact_label, own_slots, entry_of, disk_entry, shadow_by, master_by, in_slot, HasLabel}
 use Rattle.avs_compact.specs.Slots.{IsClean, AreEntries}
 use Rattle.avs_compact.specs.Disks.{raised}
-use Rattle.avs_compact.specs.Making.{Fits, Formats, Makes, Loads, HasArea, areas_on, own_of, formatted}
+use Rattle.avs_compact.specs.Making.{Fits, Formats, Makes, Loads, HasArea, IsLabelFirst, areas_on, own_of, formatted}
 use Rattle.avs_compact.proofs.EntryBytes.{entry_on_blocks, entry_in-zeros}
 use Rattle.avs_compact.proofs.Counts.{cond_is, cond_not, raised-some, raised-then, raised_most}
 use Rattle.avs_dev.proofs.Going.{lasts_same, lasts_then, spared_same, spared_then, fails_then}
@@ -100,8 +100,20 @@ module _ (d e f : Seen) (blocks i n at : ℕ) (bytes : List ℕ) (p : Written d 
         ∙ put_more d.image (formatted blocks) 0 i n;
   }
 
-  Written-stopped : {T E : Type 0} (y z : E) → Writes {T = T} e at bytes (Err y) f → Formats {T = T} d blocks (Err z) f
-  Written-stopped y z w = record {
+  -- the label, which is the first block, is written by itself
+  label_is_first : ((i ≡ 0) × (n ≡ 1)) ⊎ (0 < i) → IsTold d → ChangesWithin at (length bytes / 512) e.image f.image → IsLabelFirst d.image blocks f.image
+  label_is_first (inl (zero, one)) told within = inr (λ k pos.
+      within.outside k (inr (omega (arith, at_is, zero, one, count, pos)))
+      ∙ ap (λ (l : Image). block_at l k) (p.image told ∙ put_none d.image 0 (range (formatted blocks) 0 i) (length-range (formatted blocks) 0 i ∙ zero)))
+  label_is_first (inr pos) told within = inl (
+      within.outside 0 (inl (omega (arith, at_is, pos)))
+      ∙ ap (λ (l : Image). block_at l 0) (p.image told)
+      ∙ put_inside d.image 0 (range (formatted blocks) 0 i) 0 (omega arith) (omega (arith, length-range (formatted blocks) 0 i, pos)) (omega (arith, room, told))
+      ∙ same_place (range (formatted blocks) 0 i) (0 - 0) 0 (omega arith)
+      ∙ block_at-range (formatted blocks) 0 i 0 pos)
+
+  Written-stopped : {T E : Type 0} (y z : E) → ((i ≡ 0) × (n ≡ 1)) ⊎ (0 < i) → Writes {T = T} e at bytes (Err y) f → Formats {T = T} d blocks (Err z) f
+  Written-stopped y z place w = record {
     goes = record { lasts = lasts_then d e f p.lasts w.goes.lasts; done = tt; failed = fails_then d e f p.lasts.steady p.spared w.goes.failed };
     counted = tt;
     most = (let k : f.written ≡ raised d.written i = w.uncounted ∙ p.counted in omega (arith, k, raised_most d.written i, fits));
@@ -110,6 +122,7 @@ module _ (d e f : Seen) (blocks i n at : ℕ) (bytes : List ℕ) (p : Written d 
         (subst (λ (l : Image). IsMix l (0 + i) (range (formatted blocks) i n) f.image) (p.image told)
         (subst (λ (k : ℕ). IsMix e.image k (range (formatted blocks) i n) f.image) at_is
         (subst (λ (l : Image). IsMix e.image at l f.image) part (w.failed (p.lasts.told told)))));
+    label_first = λ told. label_is_first place told (w.within (p.lasts.told told));
   }
 
 Written-all : {T E : Type 0} (x : T) (d e : Seen) (blocks i : ℕ) → i ≡ blocks_for (seg_count blocks) → Written d blocks i e → Formats {E = E} d blocks (Ok x) e
@@ -119,6 +132,7 @@ Written-all x d e blocks i all p = record {
   most = (let k : e.written ≡ raised d.written i = p.counted in omega (arith, k, raised_most d.written i, all));
   done = λ told. p.image told ∙ ap (λ (l : Image). put d.image 0 l) (range_all (formatted blocks) i (all ∙ sym (length-formatted blocks)));
   stopped = λ _. tt;
+  label_first = λ _. tt;
 }
 
 module _ (d d1 d2 d3 : Seen) (blocks len at3 : ℕ) (block memory : List ℕ) (one : length block ≡ 512) (is : IsLabel block (compact_label blocks)) (len_is : len ≡ area_len (seg_count blocks)) (at3_is : at3 ≡ 1 + len)
@@ -127,7 +141,7 @@ module _ (d d1 d2 d3 : Seen) (blocks len at3 : ℕ) (block memory : List ℕ) (o
   width = omega (arith, long)
 
   pub Formats-1 : {T E : Type 0} (y : E) → Writes {T = T} d 0 block (Err y) d1 → Formats {T = T} d blocks (Err y) d1
-  Formats-1 y w = Written-stopped d d d1 blocks 0 1 0 block (Written-none d blocks) (omega arith) (omega arith) (omega (arith, one)) (label_part blocks block one is) (omega arith) room y y w
+  Formats-1 y w = Written-stopped d d d1 blocks 0 1 0 block (Written-none d blocks) (omega arith) (omega arith) (omega (arith, one)) (label_part blocks block one is) (omega arith) room y y (inl (refl, refl)) w
 
   after_label : {T E : Type 0} (x : T) → Writes {E = E} d 0 block (Ok x) d1 → Written d blocks (0 + 1) d1
   after_label x w = Written-more d d d1 blocks 0 1 0 block (Written-none d blocks) (omega arith) (omega arith) (omega (arith, one)) (label_part blocks block one is) (omega arith) room x w
@@ -139,13 +153,13 @@ module _ (d d1 d2 d3 : Seen) (blocks len at3 : ℕ) (block memory : List ℕ) (o
   second_area = zeros_part blocks (area_len (seg_count blocks)) memory zeros (inr refl) ∙ ap (λ (k : ℕ). range (formatted blocks) k (area_len (seg_count blocks))) (let e : 1 + area_len (seg_count blocks) ≡ 0 + 1 + area_len (seg_count blocks) = omega arith in e)
 
   pub Formats-2 : {T E : Type 0} (x : T) (y : E) → Writes {E = E} d 0 block (Ok x) d1 → Writes {T = T} d1 1 memory (Err y) d2 → Formats {T = T} d blocks (Err y) d2
-  Formats-2 x y w w2 = Written-stopped d d1 d2 blocks (0 + 1) (area_len (seg_count blocks)) 1 memory (after_label x w) (omega arith) (omega arith) width first_area (omega arith) room y y w2
+  Formats-2 x y w w2 = Written-stopped d d1 d2 blocks (0 + 1) (area_len (seg_count blocks)) 1 memory (after_label x w) (omega arith) (omega arith) width first_area (omega arith) room y y (inr (omega arith)) w2
 
   after_first : {T E : Type 0} (x y : T) → Writes {E = E} d 0 block (Ok x) d1 → Writes {E = E} d1 1 memory (Ok y) d2 → Written d blocks (0 + 1 + area_len (seg_count blocks)) d2
   after_first x y w w2 = Written-more d d1 d2 blocks (0 + 1) (area_len (seg_count blocks)) 1 memory (after_label x w) (omega arith) (omega arith) width first_area (omega arith) room y w2
 
   pub Formats-3 : {T E : Type 0} (x y : T) (r : Result T E) → Writes {E = E} d 0 block (Ok x) d1 → Writes {E = E} d1 1 memory (Ok y) d2 → Writes d2 at3 memory r d3 → Formats d blocks r d3
-  Formats-3 x y (Err e) w w2 w3 = Written-stopped d d2 d3 blocks (0 + 1 + area_len (seg_count blocks)) (area_len (seg_count blocks)) at3 memory (after_first x y w w2) (omega arith) (omega arith) width second_area (omega arith) room e e w3
+  Formats-3 x y (Err e) w w2 w3 = Written-stopped d d2 d3 blocks (0 + 1 + area_len (seg_count blocks)) (area_len (seg_count blocks)) at3 memory (after_first x y w w2) (omega arith) (omega arith) width second_area (omega arith) room e e (inr (omega arith)) w3
   Formats-3 x y (Ok z) w w2 w3 = Written-all z d d3 blocks (0 + 1 + area_len (seg_count blocks) + area_len (seg_count blocks)) (omega arith)
       (Written-more d d2 d3 blocks (0 + 1 + area_len (seg_count blocks)) (area_len (seg_count blocks)) at3 memory (after_first x y w w2) (omega arith) (omega arith) width second_area (omega arith) room z w3)
 

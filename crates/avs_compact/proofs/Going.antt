@@ -18,6 +18,12 @@ shadow_or Shadow = inl refl
 shadow_or Bitmap = inr (λ e. cc)
 shadow_or Over = inr (λ e. cc)
 
+bitmap_or : (d : CompactDisk) → (d ≡ Bitmap) ⊎ (d ≢ Bitmap)
+bitmap_or Master = inr (λ e. cc)
+bitmap_or Shadow = inr (λ e. cc)
+bitmap_or Bitmap = inl refl
+bitmap_or Over = inr (λ e. cc)
+
 over_or : (d : CompactDisk) → (d ≡ Over) ⊎ (d ≢ Over)
 over_or Master = inr (λ e. cc)
 over_or Shadow = inr (λ e. cc)
@@ -51,3 +57,12 @@ over_goes m s b o o' r g = all_go (four m s b o) (four m s b o') Over over_or (�
     other Shadow ne = refl
     other Bitmap ne = refl
     other Over ne = absurd (ne refl)
+
+pub bitmap_goes : {T E : Type 0} (m s b b' o : Seen) (r : Result T E) → GoesOn b r b' → AllGoOn (four m s b o) r (four m s b' o)
+bitmap_goes m s b b' o r g = all_go (four m s b o) (four m s b' o) Bitmap bitmap_or (λ d ne. other d ne) r g
+  where
+    other : (d : CompactDisk) → d ≢ Bitmap → four m s b' o d ≡ four m s b o d
+    other Master ne = refl
+    other Shadow ne = refl
+    other Bitmap ne = absurd (ne refl)
+    other Over ne = refl

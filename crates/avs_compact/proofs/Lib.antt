@@ -4,3 +4,15 @@ pub mod Marking
 pub mod Formatting
 pub mod Going
 pub mod Readings
+pub mod EntryBlocks
+pub mod Copied
+pub mod Placed
+pub mod Settled
+pub mod SettlingNew
+pub mod Settles
+pub mod NextSlot
+pub mod Again
+pub mod Due
+pub mod Written
+pub mod WrittenAll
+pub mod Chained

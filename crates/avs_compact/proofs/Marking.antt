@@ -16,14 +16,14 @@ use Rattle.avs_compact.proofs.Counts.{count_more, count_none, count_sum, one_mos
 
 -- ---- whose slot an entry tells
 
-own_yes : (own e : ℕ) → e ≢ 0 → slot_by e < own → is_own own e ≡ true
+pub own_yes : (own e : ℕ) → e ≢ 0 → slot_by e < own → is_own own e ≡ true
 own_yes own e some lt = own_if (eqb_tells e 0)
   where
     own_if : ((eqb e 0 ≡ true) × (e ≡ 0)) ⊎ ((eqb e 0 ≡ false) × (e ≢ 0)) → is_own own e ≡ true
     own_if (inl z) = absurd (some z.1)
     own_if (inr n) = ap (λ (b : Bool). not b && nat_lt (slot_by e) own) n.0 ∙ lt-ltb (slot_by e) own lt
 
-own_no : (own e : ℕ) → (e ≡ 0) ⊎ (own ≤ slot_by e) → is_own own e ≡ false
+pub own_no : (own e : ℕ) → (e ≡ 0) ⊎ (own ≤ slot_by e) → is_own own e ≡ false
 own_no own e (inl z) = ap (λ (b : Bool). not b && nat_lt (slot_by e) own) (eq-eqb e 0 z)
 own_no own e (inr past) = no_if (eqb_tells e 0)
   where
@@ -58,7 +58,7 @@ whose own e = elim (cases_eq e 0) [
   | inr some ↦ elim (cases_lt (slot_by e) own) [ inl lt ↦ Own some lt | inr past ↦ Over some past ]
 ]
 
-touched_yes : (e : ℕ) → e ≢ 0 → is_touched e ≡ true
+pub touched_yes : (e : ℕ) → e ≢ 0 → is_touched e ≡ true
 touched_yes e some = yes_if (eqb_tells e 0)
   where
     yes_if : ((eqb e 0 ≡ true) × (e ≡ 0)) ⊎ ((eqb e 0 ≡ false) × (e ≢ 0)) → is_touched e ≡ true
@@ -116,13 +116,13 @@ free_at zero slot = refl
 free_at (suc n) zero = refl
 free_at (suc n) (suc slot) = free_at n slot
 
-some_none : (a : Option ℕ) (c : ℕ) → a ≡ None → a ≡ Some c → ⊥
+pub some_none : (a : Option ℕ) (c : ℕ) → a ≡ None → a ≡ Some c → ⊥
 some_none a c x y = not_some (sym y ∙ x)
   where
     not_some : Some c ≡ None → ⊥
     not_some e = cc
 
-same_some : (a b : ℕ) → Some a ≡ Some b → a ≡ b
+pub same_some : (a b : ℕ) → Some a ≡ Some b → a ≡ b
 same_some a b e = ap (λ (o : Option ℕ). value o) e
   where
     value : Option ℕ → ℕ

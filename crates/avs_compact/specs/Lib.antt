@@ -2,7 +2,13 @@ pub mod Entries
 pub mod Disks
 pub mod CompactSet
 pub mod Slots
+pub mod Places
 pub mod Counting
 pub mod Calls
+pub mod Steps
+pub mod Keeping
+pub mod Saving
+pub mod Copying
+pub mod Writing
 pub mod Making
 pub mod Arming

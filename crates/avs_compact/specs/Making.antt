@@ -50,11 +50,16 @@ pub record Makes (set : ℕ) (shadow bitmap : Seen) (blocks : ℕ) (new : Compac
   pub step : IsTold bitmap → IsInStep new
   pub images : IsTold bitmap → (o : OverSet) (m : Image) → length m ≡ blocks → (shadow_image new o m ≡ m) × (master_image new o m ≡ m)
 
+-- the label is written before the areas: it stands, or no block behind it has changed
+abbrev pub IsLabelFirst : Image → ℕ → Image → Type 0
+IsLabelFirst old blocks new = (block_at new 0 ≡ label_block (compact_label blocks)) ⊎ ((i : ℕ) → 0 < i → block_at new i ≡ block_at old i)
+
 -- the bitmap's disk failed while it was formatted
 pub record FailsFormat (old : Seen) (blocks : ℕ) (new : Seen) : Type 0 where
   pub lasts : Lasts old new
   pub fails : Fails old new
   pub mix : IsTold old → IsMix old.image 0 (formatted blocks) new.image
+  pub label_first : IsTold old → IsLabelFirst old.image blocks new.image
   pub counted : new.written ≤ old.written + blocks_for (seg_count blocks)
 
 -- why no set was made, and what the bitmap's disk is then
@@ -109,6 +114,7 @@ pub record Formats {T E : Type 0} (old : Seen) (blocks : ℕ) (result : Result T
   pub most : new.written ≤ old.written + blocks_for (seg_count blocks)
   pub done : IsTold old → OnOk result (new.image ≡ put old.image 0 (formatted blocks))
   pub stopped : IsTold old → OnErr result (IsMix old.image 0 (formatted blocks) new.image)
+  pub label_first : IsTold old → OnErr result (IsLabelFirst old.image blocks new.image)
 
 -- why the label was not read
 abbrev pub ReadRefused : Seen → ℕ → Why → Seen → Type 0

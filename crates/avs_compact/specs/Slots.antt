@@ -1,10 +1,10 @@
 -- The entries of a set, and the table of its own slots that goes with them.
-use Rattle.std.specs.Prelude.{◌≡◌, ◌≢◌, ◌⊎◌, ℕ, ◌+◌, ◌*◌, ◌<◌, ◌≤◌, ◌^◌, true, if◌then◌else◌, List, length, Option, None, Some, slice_set}
+use Rattle.std.specs.Prelude.{◌≡◌, ◌≢◌, ◌⊎◌, ℕ, ◌+◌, ◌*◌, ◌<◌, ◌≤◌, ◌^◌, nat_lt, true, if◌then◌else◌, List, length, Option, None, Some, slice_set}
 use Rattle.avs_seg.specs.Segment.{seg_count}
 use Rattle.avs_dev.specs.Seen.{Seen}
 use Rattle.avs_flip.specs.Areas.{Areas}
 use Rattle.avs_over.specs.Slots.{Owners, owner_at, used_in}
-use Rattle.avs_compact.specs.Entries.{slot_by, IsEntry, entry_in, area_len}
+use Rattle.avs_compact.specs.Entries.{slot_by, state_by, on_shadow, IsEntry, entry_in, area_len}
 use Rattle.avs_compact.specs.CompactSet.{is_own, is_over, count_of}
 use Rattle.avs_compact.specs.declared.marks.Counts.{Counts}
 
@@ -43,6 +43,17 @@ pub record MarksOne (old : Owners) (before : Counts) (chunk entry : ℕ) (new : 
   pub table : new ≡ (if is_own (length old) entry then slice_set old (slot_by entry) (Some chunk) else old)
   pub own : after.own ≡ before.own + (if is_own (length old) entry then 1 else 0)
   pub over : after.over ≡ before.over + (if is_over (length old) entry then 1 else 0)
+
+-- each own slot below one has a chunk, and no chunk below another one stands in its slot alone
+pub record ArePassed (entries : ℕ → ℕ) (n : ℕ) (table : Owners) (low due : ℕ) : Type 0 where
+  pub taken : (k : ℕ) → k < low → k < length table → owner_at table k ≢ None
+  pub settled : (c : ℕ) → c < due → c < n → state_by (entries c) ≢ on_shadow
+
+-- what stands in a table once a chunk has a slot: the slot is the chunk's where it is one of the table
+pub record MarksSlot (old : Owners) (before : Counts) (chunk slot : ℕ) (new : Owners) (after : Counts) : Type 0 where
+  pub table : new ≡ (if nat_lt slot (length old) then slice_set old slot (Some chunk) else old)
+  pub own : after.own ≡ before.own + (if nat_lt slot (length old) then 1 else 0)
+  pub over : after.over ≡ before.over + (if nat_lt slot (length old) then 0 else 1)
 
 -- an entry can't be gone through: it has no such form, or its own slot is given
 abbrev pub IsBadMark : Owners → ℕ → Type 0

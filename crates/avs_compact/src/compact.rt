@@ -41,6 +41,10 @@ pub struct Compact<D: Disk> {
     // For each own slot the chunk that has it.
     pub(crate) table: Vec<Option<u32>>,
     pub(crate) counts: Counts,
+    // Each own slot below this one has a chunk.
+    pub(crate) low: u32,
+    // No chunk below this one stands in its slot alone.
+    pub(crate) due: u32,
     pub(crate) blocks: u32,
     // Room for a chunk.
     pub(crate) buffer: Vec<u8>,
@@ -51,14 +55,15 @@ impl<D: Disk> Model for Compact<D> {
     ghost use Rattle.avs_seg.specs.Segment.{seg_count};
     ghost use Rattle.avs_compact.specs.Entries.{entry_in};
     ghost use Rattle.avs_compact.specs.CompactSet.{CompactSet};
-    ghost use Rattle.avs_compact.specs.Slots.{IsKept, Marks};
+    ghost use Rattle.avs_compact.specs.Slots.{IsKept, Marks, ArePassed};
 
     ghost Value = { CompactSet };
 
     ghost view = { λ s. record { set = s.set; own = s.own; shadow = option_map D.seen s.shadow; areas = s.flip; memory = s.memory.items; next = s.next.items; blocks = s.blocks } };
 
     ghost invariant = { λ s. IsKept (option_map D.seen s.shadow) s.own s.flip s.memory.items s.next.items s.buffer.items s.blocks
-        × Marks (entry_in s.memory.items) s.own (seg_count s.blocks) s.table.items s.counts };
+        × Marks (entry_in s.memory.items) s.own (seg_count s.blocks) s.table.items s.counts
+        × ArePassed (entry_in s.memory.items) (seg_count s.blocks) s.table.items s.low s.due };
 }
 
 impl<D: Disk> Compact<D> {
@@ -162,6 +167,8 @@ impl<D: Disk> Compact<D> {
             next,
             table,
             counts,
+            low: 0,
+            due: 0,
             blocks,
             buffer,
         }

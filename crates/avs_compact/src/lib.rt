@@ -4,12 +4,21 @@
 
 mod arming;
 mod compact;
+mod copies;
+mod copying;
 mod counting;
 mod entries;
+mod fault;
 mod formats;
 mod marks;
+mod put;
 mod reading;
+mod saving;
+mod settling;
 mod slots;
+mod taking;
+mod writing;
 
 pub use compact::Compact;
 pub use entries::ChunkState;
+pub use fault::CompactFault;

@@ -1,7 +1,7 @@
 // The table of a set's own slots, which goes with the entries of its chunks.
 ghost use Rattle.std.specs.Prelude.{◌≡◌, ◌<◌, ◌≤◌, ◌+◌, ◌-◌, ◌*◌, ◌^◌, IfOk, IfErr, None, length, replicate};
 ghost use Rattle.avs_compact.specs.Entries.{entry_in, IsEntry};
-ghost use Rattle.avs_compact.specs.Slots.{Marks, MarksOne, HasBadEntry, IsBadMark};
+ghost use Rattle.avs_compact.specs.Slots.{Marks, MarksOne, MarksSlot, HasBadEntry, IsBadMark};
 
 use crate::entries::{entry_in, has_form, slot_by};
 use avs_code::BadRecord;
@@ -69,4 +69,23 @@ pub(crate) fn mark_all(
         counts = mark_one(table, counts, chunk, entry_in(bytes, chunk))?;
     }
     Ok(counts)
+}
+
+/// Marks a slot that a chunk takes, and counts it.
+pub(crate) fn mark_slot(table: &mut [Option<u32>], counts: Counts, chunk: u32, slot: u32) -> Counts
+    requires own { counts.own < 2 ^ 32 - 1 }
+    requires over { counts.over < 2 ^ 32 - 1 }
+    ensures { MarksSlot table.old counts chunk slot table.new result }
+{
+    if slot as usize >= table.len() {
+        return Counts {
+            own: counts.own,
+            over: counts.over + 1,
+        };
+    }
+    table[slot as usize] = Some(chunk);
+    Counts {
+        own: counts.own + 1,
+        over: counts.over,
+    }
 }

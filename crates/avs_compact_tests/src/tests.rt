@@ -14,16 +14,16 @@ const SPLIT: u32 = 0x8000_0001;
 
 const BACK: u32 = 0xc000_0001;
 
-fn same<T: PartialEq + Debug + Drop>(rt: &impl Abort, found: T, want: T) {
+pub(crate) fn same<T: PartialEq + Debug + Drop>(rt: &impl Abort, found: T, want: T) {
     assert_eq!(rt; found, want);
 }
 
-fn disk(rt: &impl Abort, alloc: Global, blocks: u32) -> MemDisk {
+pub(crate) fn disk(rt: &impl Abort, alloc: Global, blocks: u32) -> MemDisk {
     MemDisk::new(alloc, blocks, Vec::new(alloc)).expect(rt, "a disk")
 }
 
 // Writes a block of this byte over each block of a range.
-fn fill(rt: &impl Abort, disk: &mut MemDisk, from: u32, end: u32, byte: u8) {
+pub(crate) fn fill(rt: &impl Abort, disk: &mut MemDisk, from: u32, end: u32, byte: u8) {
     for at in from..end {
         assert!(rt; at < disk.blocks());
         disk.write(at, &[byte; BLOCK]).expect(rt, "a block");
@@ -41,7 +41,13 @@ fn block_of(rt: &impl Abort, entries: &[u32]) -> [u8; BLOCK] {
 }
 
 // A bitmap that was formatted for so many blocks, with these entries in a block of it.
-fn bitmap(rt: &impl Abort, alloc: Global, blocks: u32, at: u32, entries: &[u32]) -> MemDisk {
+pub(crate) fn bitmap(
+    rt: &impl Abort,
+    alloc: Global,
+    blocks: u32,
+    at: u32,
+    entries: &[u32],
+) -> MemDisk {
     assert!(rt; 0 < blocks);
     match Compact::make(alloc, 7, disk(rt, alloc, 64), disk(rt, alloc, 64), blocks) {
         Ok(set) => {
@@ -137,7 +143,12 @@ fn asked(
 }
 
 // An overflow volume with slots that are given.
-fn labelled(rt: &impl Abort, alloc: Global, disk: MemDisk, taken: &[(u32, u32)]) -> Over<MemDisk> {
+pub(crate) fn labelled(
+    rt: &impl Abort,
+    alloc: Global,
+    disk: MemDisk,
+    taken: &[(u32, u32)],
+) -> Over<MemDisk> {
     assert!(rt; 0 < disk.blocks());
     match Over::make(alloc, disk) {
         Ok(over) => match Over::load(alloc, over.into_disk(), taken) {

@@ -28,6 +28,10 @@ used o = used_in o.owners
 abbrev pub slot_from : ℕ → ℕ
 slot_from slot = 1 + 64 * slot
 
+-- the blocks of each slot lie on the disk
+pub record AreOnDisk (o : OverSet) : Type 0 where
+  pub each : (slot : ℕ) → slot < slots o → slot_from slot + 64 ≤ o.disk.size
+
 -- the blocks of a slice from one of a slot on are whole, one or more, and lie inside the slot
 pub record IsInSlot (o : OverSet) (slot at len : ℕ) : Type 0 where
   pub there : slot < slots o

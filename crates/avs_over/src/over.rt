@@ -2,7 +2,7 @@
 ghost use Rattle.std.specs.Prelude.{◌≡◌, ◌/◌, ◌-◌, ◌<◌, ◌≤◌, ◌^◌, IfOk, IfErr, None, length, replicate};
 ghost use Rattle.avs_dev.specs.Seen.{IsTold};
 ghost use Rattle.avs_over.specs.Slots.{AreApart, AreGiven, slots_of};
-ghost use Rattle.avs_over.specs.Over.{IsInSlot, HasLabel, Makes, MakeRefused, Loads, LoadRefused, Takes, Releases, ReadsSlot, WritesSlot, ArmsDisk, IsKept, slots, used, written_of};
+ghost use Rattle.avs_over.specs.Over.{IsInSlot, HasLabel, Makes, MakeRefused, Loads, LoadRefused, Takes, Releases, ReadsSlot, WritesSlot, ArmsDisk, AreOnDisk, IsKept, slots, used, written_of};
 
 use crate::formats::{format, read_label};
 use crate::owners::{BETWEEN, all_free, first_free, free_of, give_all};
@@ -99,6 +99,13 @@ impl<D: Disk> Over<D> {
         ensures most { result ≤ slots self.now }
     {
         self.used
+    }
+
+    /// A law: each slot lies on the disk, behind the block of the label. It makes no call of the disk.
+    pub fn lies_on_disk(&self)
+        ensures { AreOnDisk self.now }
+    {
+        let _used = self.used;
     }
 
     /// Gives the least free slot to a set. The answer is None exactly where all are used.

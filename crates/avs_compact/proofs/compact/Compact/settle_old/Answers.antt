@@ -1,0 +1,65 @@
+use Rattle.std.proofs.Common.{rules, ◌≡◌, ◌*◌, ◌<◌, ℕ, List, length, Option, Some, None, Ok, Err, refl, sym, ap, subst, ◌∙◌, arith}
+use Rattle.std.specs.Option.{option_map}
+use Rattle.std.specs.Vec.{with_items}
+use Rattle.std.proofs.lemmas.List.{with_items_is}
+use Rattle.avs_seg.specs.Segment.{seg_count}
+use Rattle.avs_compact.specs.Entries.{entry_in, entry_for, slot_by, code_of}
+use Rattle.avs_compact.specs.CompactSet.{CompactSet, disk_of, over_of}
+use Rattle.avs_compact.specs.Disks.{Shadow}
+use Rattle.avs_compact.specs.Slots.{IsClean, Marks, ArePassed}
+use Rattle.avs_compact.specs.Steps.{WritesEntry}
+use Rattle.avs_compact.proofs.Copied.{back_goes}
+use Rattle.avs_compact.proofs.Again.{kept_again, stands_again}
+use Rattle.avs_compact.proofs.Settles.{old_fails, old_settles}
+use Rattle.avs_compact.proofs.compact.Compact.settle_old.Goals as goal
+
+pub returns-in_err-copy_back : goal.returns-in_err-copy_back
+returns-in_err-copy_back g c =
+    let i = c.self.inside in
+    let seen = g.D.Disk.seen in
+    let s : CompactSet = record { set = i.set; own = i.own; shadow = option_map seen i.shadow; areas = i.flip; memory = i.memory.items; next = i.next.items; blocks = i.blocks } in
+    let may = rw (← c.self.view_is) at c.requires.may in
+    let served = rw (← c.self.view_is) at c.requires.slots in
+    let entry : c.entry_in-old.result ≡ entry_in i.memory.items c.args.chunk = c.entry_in-old.ensures ∙ ap (λ (l : List ℕ). entry_in l c.args.chunk) c.deref.ensures.value in
+    let is : c.from_residual.result ≡ Err c.in_err-copy_back.field-0.0 = search rules in
+    rw is (rw (← c.self.view_is) (old_fails s c.args.chunk (code_of c.args.target) c.entry_in-old.result (over_of c.args.over.now) (over_of c.copy_back.new.over) entry may served c.self.invariant.1.form
+    (option_map seen c.copy_back.new.shadow) (search rules) (seen c.args.master.now) (seen c.copy_back.new.master) c.copy_back.result c.seg_span-span.result.at c.seg_span-span.result.len c.seg_span-span.ensures.at c.seg_span-span.ensures.len c.copy_back.ensures.copies
+    c.in_err-copy_back.field-0.0 c.in_err-copy_back.field-0.0 c.in_err-copy_back.was))
+
+pub returns : goal.returns
+returns g c =
+    let i = c.self.inside in
+    let seen = g.D.Disk.seen in
+    let s : CompactSet = record { set = i.set; own = i.own; shadow = option_map seen i.shadow; areas = i.flip; memory = i.memory.items; next = i.next.items; blocks = i.blocks } in
+    let may = rw (← c.self.view_is) at c.requires.may in
+    let served = rw (← c.self.view_is) at c.requires.slots in
+    let entry : c.entry_in-old.result ≡ entry_in i.memory.items c.args.chunk = c.entry_in-old.ensures ∙ ap (λ (l : List ℕ). entry_in l c.args.chunk) c.deref.ensures.value in
+    let slot : c.slot_by.result ≡ slot_by (entry_in i.memory.items c.args.chunk) = c.slot_by.ensures.is ∙ ap slot_by entry in
+    let long : (with_items i.memory c.put_entry.new.memory).items ≡ c.put_entry.new.memory = with_items_is i.memory c.put_entry.new.memory (search rules) in
+    let puts = subst (λ (k : ℕ). WritesEntry i.flip i.memory.items c.args.chunk k c.put_entry.result c.put_entry.new.flip c.put_entry.new.memory) c.entry_for-entry.ensures
+    (subst (λ (l : List ℕ). WritesEntry i.flip l c.args.chunk c.entry_for-entry.result c.put_entry.result c.put_entry.new.flip c.put_entry.new.memory) c.deref_mut-2.ensures.value c.put_entry.ensures) in
+    rw (← c.self.view_is) (rw long (old_settles s c.args.chunk (code_of c.args.target) c.entry_in-old.result (over_of c.args.over.now) (over_of c.copy_back.new.over) entry may served c.self.invariant.1.form
+    (option_map seen c.copy_back.new.shadow) (search rules) (seen c.args.master.now) (seen c.copy_back.new.master) c.copy_back.result c.seg_span-span.result.at c.seg_span-span.result.len c.seg_span-span.ensures.at c.seg_span-span.ensures.len c.copy_back.ensures.copies
+    c.slot_by.result slot c.slot_by.ensures.small c.self.invariant.0.clean c.self.invariant.0.first c.put_entry.new.flip c.put_entry.new.memory c.in_ok-copy_back.field-0 c.in_ok-copy_back.was c.put_entry.result puts))
+
+pub invariant_of-self-2 : goal.invariant_of-self-2
+invariant_of-self-2 g c =
+    let i = c.self.inside in
+    let seen = g.D.Disk.seen in
+    let k = c.self.invariant.0 in
+    let may = rw (← c.self.view_is) at c.requires.may in
+    let entry : c.entry_in-old.result ≡ entry_in i.memory.items c.args.chunk = c.entry_in-old.ensures ∙ ap (λ (l : List ℕ). entry_in l c.args.chunk) c.deref.ensures.value in
+    let slot : c.slot_by.result ≡ slot_by (entry_in i.memory.items c.args.chunk) = c.slot_by.ensures.is ∙ ap slot_by entry in
+    let items : (with_items i.memory c.put_entry.new.memory).items ≡ c.put_entry.new.memory = with_items_is i.memory c.put_entry.new.memory (search rules) in
+    let long : (with_items i.buffer c.copy_back.new.buffer).items ≡ c.copy_back.new.buffer = with_items_is i.buffer c.copy_back.new.buffer (search rules) in
+    let puts = subst (λ (e : ℕ). WritesEntry i.flip i.memory.items c.args.chunk e c.put_entry.result c.put_entry.new.flip c.put_entry.new.memory) c.entry_for-entry.ensures
+    (subst (λ (l : List ℕ). WritesEntry i.flip l c.args.chunk c.entry_for-entry.result c.put_entry.result c.put_entry.new.flip c.put_entry.new.memory) c.deref_mut-2.ensures.value c.put_entry.ensures) in
+    let size = ((back_goes c.entry_in-old.result (seen c.args.master.now) (seen c.copy_back.new.master) (disk_of (option_map seen i.shadow)) (disk_of (option_map seen c.copy_back.new.shadow)) (over_of c.args.over.now) (over_of c.copy_back.new.over) i.own
+    c.seg_span-span.result.at c.seg_span-span.result.len c.copy_back.result c.copy_back.ensures.copies (seen c.args.master.now)) Shadow).size in
+    let stands = stands_again i.memory.items c.put_entry.new.memory c.args.chunk (code_of c.args.target) c.slot_by.result (seg_count i.blocks) i.own i.table.items i.counts i.low i.due c.put_entry.result puts.set puts.unset
+    may.there may.targets c.slot_by.ensures.small may.slot slot (record { clean = k.clean; marks = c.self.invariant.1; passed = c.self.invariant.2 }) in (
+      kept_again (option_map seen i.shadow) (option_map seen c.copy_back.new.shadow) i.own i.flip c.put_entry.new.flip i.memory.items (with_items i.memory c.put_entry.new.memory).items i.next.items i.buffer.items (with_items i.buffer c.copy_back.new.buffer).items i.blocks k (search rules) size
+          puts.place puts.goes.lasts.size (ap (λ (l : List ℕ). length l) items ∙ puts.len) (subst (λ (l : List ℕ). IsClean l (seg_count i.blocks)) (sym items) stands.clean) (ap (λ (l : List ℕ). length l) long ∙ (search rules)),
+      subst (λ (l : List ℕ). Marks (entry_in l) i.own (seg_count i.blocks) i.table.items i.counts) (sym items) stands.marks,
+      subst (λ (l : List ℕ). ArePassed (entry_in l) (seg_count i.blocks) i.table.items i.low i.due) (sym items) stands.passed,
+    )

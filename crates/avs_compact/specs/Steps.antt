@@ -1,0 +1,86 @@
+-- The steps of a chunk that is settled: the slot that it takes, the copy of its contents, and the write of its entry.
+use Rattle.std.specs.Prelude.{◌≡◌, ◌≢◌, ◌⊎◌, ℕ, ◌+◌, ◌-◌, ◌*◌, ◌/◌, ◌<◌, ◌≤◌, List, length, Option, None, Some, IfSome, IfNone, Result, IsOk, OnOk, OnErr}
+use Rattle.avs_seg.specs.Image.{Image, block_at, blocks_of, ChangesWithin}
+use Rattle.avs_dev.specs.Seen.{Seen, IsTold, GoesOn, Writes}
+use Rattle.avs_dev.specs.Devices.{AllGoOn}
+use Rattle.avs_flip.specs.Areas.{Areas, live, staged, live_from}
+use Rattle.avs_over.specs.Slots.{Owners, owner_at, used_in}
+use Rattle.avs_over.specs.Over.{OverSet, Takes, WritesSlot, slots, used, slot_from}
+use Rattle.avs_compact.specs.Entries.{on_shadow, state_by, slot_by, entry_in, entry_on}
+use Rattle.avs_compact.specs.CompactSet.{in_slot}
+use Rattle.avs_compact.specs.Disks.{four}
+
+-- The next slot that a set takes: one of its own that is free, and where none is, the least free one of its overflow volume.
+pub record TakesSlot (table : Owners) (set : ℕ) (o : OverSet) (result : Option ℕ) (o_new : OverSet) : Type 0 where
+  pub own : IfSome result (λ slot. slot < length table → (owner_at table slot ≡ None) × (o_new ≡ o))
+  pub below : IfSome result (λ slot. slot < length table → (k : ℕ) → k < slot → owner_at table k ≢ None)
+  pub full : IfSome result (λ slot. length table ≤ slot → used_in table ≡ length table)
+  pub over : IfSome result (λ slot. length table ≤ slot → Takes o set (Some (slot - length table)) o_new)
+  pub none : IfNone result ((used_in table ≡ length table) × (used o ≡ slots o))
+
+-- only blocks of one slot of an overflow volume change, and none where the slot is one of the set's own
+pub record OnlySlot (own slot : ℕ) (old new : Image) : Type 0 where
+  pub label : block_at new 0 ≡ block_at old 0
+  pub others : (k i : ℕ) → i < 64 → own + k ≢ slot → block_at new (slot_from k + i) ≡ block_at old (slot_from k + i)
+
+-- the blocks of all slots but one stay
+pub record OtherSlots (own slot : ℕ) (s o s_new o_new : Image) : Type 0 where
+  pub each : (k i : ℕ) → i < 64 → k ≢ slot → in_slot own s_new o_new k i ≡ in_slot own s o k i
+
+-- blocks of a slot are written
+pub record WritesOne {T E : Type 0} (shadow : Seen) (o : OverSet) (own slot at : ℕ) (bytes : List ℕ) (result : Result T E) (shadow_new : Seen) (o_new : OverSet) : Type 0 where
+  pub to_own : slot < own → Writes shadow (64 * slot + at) bytes result shadow_new
+  pub over_rest : slot < own → o_new ≡ o
+  pub to_over : own ≤ slot → WritesSlot o (slot - own) at bytes result o_new
+  pub shadow_rest : own ≤ slot → shadow_new ≡ shadow
+
+-- blocks of the master are copied into a slot
+pub record CopiesIn {T E : Type 0} (m s : Seen) (o : OverSet) (own slot at len : ℕ) (result : Result T E) (m_new s_new : Seen) (o_new : OverSet) : Type 0 where
+  pub goes : (b : Seen) → AllGoOn (four m s b o.disk) result (four m_new s_new b o_new.disk)
+  pub master : m_new ≡ record m { faults = m_new.faults }
+  pub over : o_new ≡ record o { disk = o_new.disk }
+  pub only : IsTold o.disk → OnlySlot own slot o.disk.image o_new.disk.image
+  pub others : IsTold s → IsTold o.disk → OtherSlots own slot s.image o.disk.image s_new.image o_new.disk.image
+  pub copied : IsTold m → IsTold s → IsTold o.disk
+      → OnOk result ((i : ℕ) → i < len → in_slot own s_new.image o_new.disk.image slot i ≡ block_at m.image (at + i))
+
+-- blocks of a slot are copied to the master
+pub record CopiesOut {T E : Type 0} (m s : Seen) (o : OverSet) (own slot at len : ℕ) (result : Result T E) (m_new s_new : Seen) (o_new : OverSet) : Type 0 where
+  pub goes : (b : Seen) → AllGoOn (four m s b o.disk) result (four m_new s_new b o_new.disk)
+  pub shadow : s_new ≡ record s { faults = s_new.faults }
+  pub over : o_new ≡ record o { disk = record o.disk { faults = o_new.disk.faults } }
+  pub within : IsTold m → ChangesWithin at len m.image m_new.image
+  pub copied : IsTold m → IsTold s → IsTold o.disk
+      → OnOk result ((i : ℕ) → i < len → block_at m_new.image (at + i) ≡ in_slot own s.image o.disk.image slot i)
+
+-- a chunk whose contents stand in its slot alone is copied to the master, and nothing is done for any other
+pub record CopiesBack {T E : Type 0} (entry : ℕ) (m s : Seen) (o : OverSet) (own at len : ℕ) (result : Result T E) (m_new s_new : Seen) (o_new : OverSet) : Type 0 where
+  pub out : state_by entry ≡ on_shadow → CopiesOut m s o own (slot_by entry) at len result m_new s_new o_new
+  pub nothing : state_by entry ≢ on_shadow → IsOk result × ((m_new ≡ m) × ((s_new ≡ s) × (o_new ≡ o)))
+
+-- an area after the block with the entry of a chunk was written from memory, with this entry
+pub record HasEntries (memory : List ℕ) (old new : Image) (chunk entry : ℕ) : Type 0 where
+  pub now : entry_on new chunk ≡ entry
+  pub near : (c : ℕ) → c ≢ chunk → c / 128 ≡ chunk / 128 → entry_on new c ≡ entry_in memory c
+  pub far : (c : ℕ) → c / 128 ≢ chunk / 128 → entry_on new c ≡ entry_on old c
+
+-- the entry of a chunk in memory is set, and no other
+pub record PutsEntry (old new : List ℕ) (chunk entry : ℕ) : Type 0 where
+  pub now : entry_in new chunk ≡ entry
+  pub others : (c : ℕ) → c ≢ chunk → entry_in new c ≡ entry_in old c
+
+-- the live area has the entry then, and where the write fails it has it or is as before
+pub record WritesLive {T E : Type 0} (memory : List ℕ) (old : Image) (chunk entry : ℕ) (result : Result T E) (new : Image) : Type 0 where
+  pub done : OnOk result (HasEntries memory old new chunk entry)
+  pub failed : OnErr result ((new ≡ old) ⊎ HasEntries memory old new chunk entry)
+
+-- the entry of a chunk is written, and then kept in memory
+pub record WritesEntry {T E : Type 0} (old : Areas) (memory : List ℕ) (chunk entry : ℕ) (result : Result T E) (new : Areas) (memory_new : List ℕ) : Type 0 where
+  pub place : new ≡ record old { disk = new.disk }
+  pub len : length memory_new ≡ length memory
+  pub goes : GoesOn old.disk result new.disk
+  pub staged : IsTold old.disk → staged new ≡ staged old
+  pub within : IsTold old.disk → ChangesWithin (live_from old + chunk / 128) 1 old.disk.image new.disk.image
+  pub at_exit : IsTold old.disk → WritesLive memory (live old) chunk entry result (live new)
+  pub set : OnOk result (PutsEntry memory memory_new chunk entry)
+  pub unset : OnErr result (memory_new ≡ memory)

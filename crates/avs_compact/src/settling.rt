@@ -1,0 +1,69 @@
+// A chunk that is settled: its contents are copied where they stand on one side alone, and then its entry changes.
+ghost use Rattle.std.specs.Prelude.{◌≡◌, ◌≢◌, ◌⊎◌, ◌+◌, ◌<◌, ◌≤◌, IsTrue, is_some};
+ghost use Rattle.avs_over.specs.Over.{slots, used};
+ghost use Rattle.avs_compact.specs.Entries.{code_of, on_both, on_shadow, split, state_by};
+ghost use Rattle.avs_compact.specs.CompactSet.{chunks_of, entry_of, need_of, over_of, room_of};
+ghost use Rattle.avs_compact.specs.Calls.{AreThere};
+ghost use Rattle.avs_compact.specs.Keeping.{MaySettle, Settles};
+
+use crate::compact::Compact;
+use crate::copies::{copy_back, copy_in};
+use crate::entries::{ChunkState, entry_for, entry_in, slot_by};
+use crate::marks::mark_slot;
+use crate::put::put_entry;
+use crate::taking::take_slot;
+use avs_dev::Disk;
+use avs_over::Over;
+use avs_seg::{Failed, seg_span};
+
+impl<D: Disk> Compact<D> {
+    /// Saves a chunk that has no slot: it is copied into one that the set takes.
+    pub(crate) fn settle_new(
+        &mut self,
+        master: &mut D,
+        over: &mut Option<Over<D>>,
+        chunk: u32,
+    ) -> Result<(), Failed>
+        requires chunk { chunk < chunks_of self.old }
+        requires none { entry_of self.old chunk ≡ 0 }
+        requires room { need_of self.old < room_of self.old (over_of over.old) }
+        requires blocks { (D.seen master.old).size ≡ self.old.blocks }
+        requires there { IsTrue (is_some self.old.shadow) }
+        ensures { Settles self.old (over_of over.old) (D.seen master.old) chunk split result self.new (over_of over.new) (D.seen master.new) }
+    {
+        let Some(slot) = take_slot(&self.table, self.low, self.set, over) else {
+            return Err(Failed);
+        };
+        let span = seg_span(chunk, self.blocks);
+        let buffer = &mut self.buffer;
+        copy_in(master, &mut self.shadow, over, self.own, slot, span, buffer)?;
+        let entry = entry_for(ChunkState::Split, slot);
+        put_entry(&mut self.flip, &mut self.memory, chunk, entry)?;
+        self.counts = mark_slot(&mut self.table, self.counts, chunk, slot);
+        self.low = self.own.min(slot + 1);
+        Ok(())
+    }
+
+    /// Gives a chunk that has a slot another state. Where its contents stand in the slot alone, they are copied to the master
+    /// before.
+    pub(crate) fn settle_old(
+        &mut self,
+        master: &mut D,
+        over: &mut Option<Over<D>>,
+        chunk: u32,
+        target: ChunkState,
+    ) -> Result<(), Failed>
+        requires may { MaySettle self.old chunk (code_of target) }
+        requires blocks { (D.seen master.old).size ≡ self.old.blocks }
+        requires there { IsTrue (is_some self.old.shadow) }
+        requires slots { AreThere self.old (over_of over.old) }
+        ensures { Settles self.old (over_of over.old) (D.seen master.old) chunk (code_of target) result self.new (over_of over.new) (D.seen master.new) }
+    {
+        let old = entry_in(&self.memory, chunk);
+        let span = seg_span(chunk, self.blocks);
+        let buffer = &mut self.buffer;
+        copy_back(old, master, &mut self.shadow, over, self.own, span, buffer)?;
+        let entry = entry_for(target, slot_by(old));
+        put_entry(&mut self.flip, &mut self.memory, chunk, entry)
+    }
+}
