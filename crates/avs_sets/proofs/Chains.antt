@@ -2,12 +2,14 @@
 use Rattle.std.proofs.Common.{List, [], ◌++◌, Result, Ok, Err, ◌∙◌, sym, refl, ap, subst, arith}
 use Rattle.avs_seg.specs.Staged.{run, StoppedIn}
 use Rattle.avs_seg.proofs.StagedLaws.{run-append, stopped-left, stopped-right}
+use Rattle.avs_dev.specs.Seen.{IsTold}
 use Rattle.avs_dev.proofs.Going.{all_same, all_then, all_err}
 use Rattle.avs_model.specs.GroupStates.{GroupState}
+use Rattle.avs_model.specs.GroupWork.{GroupSpot}
 use Rattle.avs_model.specs.GroupStages.{GroupStage, in_group}
 use Rattle.avs_sets.specs.Sets.{SetSeen}
 use Rattle.avs_sets.specs.Meaning.{GroupSeen, set_of, disk_at, meaning}
-use Rattle.avs_sets.specs.Goes.{IsSameSet, Stays, Goes}
+use Rattle.avs_sets.specs.Goes.{IsSameSet, Stays, KeepsLabels, Goes}
 
 pub same_set : (s : SetSeen) → IsSameSet s s
 same_set s = record { slot = refl; kind = refl; master = refl; size = refl; over = refl }
@@ -25,6 +27,13 @@ stays_then a b c f g = record {
   sets = g.sets ∙ f.sets;
   each = λ k lt. same_then (set_of a.sets k) (set_of b.sets k) (set_of c.sets k) (f.each k lt) (g.each k (omega (arith, lt, f.sets)));
 }
+
+-- labels are kept by one call after another
+pub labels_none : (a : GroupSeen) → KeepsLabels a a
+labels_none a = record { each = λ spot is told. refl }
+
+pub labels_then : (a b c : GroupSeen) → ((spot : GroupSpot) → IsTold (disk_at a spot) → IsTold (disk_at b spot)) → KeepsLabels a b → KeepsLabels b c → KeepsLabels a c
+labels_then a b c told f g = record { each = λ spot is was. g.each spot is (told spot was) ∙ f.each spot is was }
 
 -- nothing is done
 pub goes_nothing : {T E : Type 0} (a : GroupSeen) (x : T) → Goes {E = E} a [] (Ok x) a

@@ -1,7 +1,8 @@
 -- A commit of changes: what a command owes of each set and of each volume.
-use Rattle.std.proofs.Common.{◌≡◌, ℕ, zero, suc, ◌+◌, ◌<◌, Bool, true, false, cond, ◌&&◌, ◌||◌, Option, None, Some, List, [], ◌∷◌, ◌++◌, length, map, filter, get_or, ◌∙◌, sym, refl, ap, arith}
+use Rattle.std.proofs.Common.{◌≡◌, ◌≢◌, ◌⊎◌, inl, inr, ℕ, zero, suc, ◌+◌, ◌<◌, Bool, true, false, cond, ◌&&◌, ◌||◌, Option, None, Some, List, [], ◌∷◌, ◌++◌, length, map, filter, get_or, ◌∙◌, sym, refl, ap, arith}
 use Rattle.std.specs.List.{list_any, range_with_len, enumerate_from, filter_map, cons_option}
 use Rattle.std.specs.Option.{option_map, unwrap_or}
+use Rattle.std.proofs.lemmas.Bool.{cases_eq}
 use Rattle.std.proofs.lemmas.List.{append-nil}
 use Rattle.avs_dev.specs.Seen.{Seen}
 use Rattle.avs_model.specs.ShadowSets.{ShadowState}
@@ -114,3 +115,119 @@ module _ (says block : BlockSays) (V O : List (Option Seen)) (S : List SetSeen) 
       over_now o =
           ap (λ (b : Bool). cond b (over_by says O S o) None) (uses_same block (λ t. set_by block V O t) (λ t. refl) S o)
           ∙ used_again (is_used says S o) (is_used block S o) (option_map (λ disk. over_slots disk.size) (get_or O o None)) (less_used says block S o fewer)
+
+-- ---- a set is enabled too
+
+none_in : (q : SetSeen → Bool) (S : List SetSeen) → ((j : ℕ) → j < length S → q (set_of S j) ≡ false) → filter q S ≡ []
+none_in q [] none = refl
+none_in q (t ∷ S) none = ap (λ (b : Bool). cond b (t ∷ filter q S) (filter q S)) (none 0 (omega arith)) ∙ none_in q S (λ j l. none (suc j) (omega (arith, l)))
+
+module _ (p p' : SetSeen → Bool) (f f' : SetSeen → ShadowState) (first : ShadowState → ShadowState) (changed : ShadowState → Option ShadowState) where
+  -- the sets behind a commit that enables one, which comes behind all others that are
+  pub sets_grown : (S : List SetSeen) (k : ℕ) → k < length S → p (set_of S k) ≡ false → p' (set_of S k) ≡ true
+      → ((j : ℕ) → j < length S → j ≢ k → Owed p p' f f' first changed (set_of S j)) → ((j : ℕ) → k < j → j < length S → p (set_of S j) ≡ false)
+      → filter_map changed (map first (map f (filter p S))) ++ f' (set_of S k) ∷ [] ≡ map f' (filter p' S)
+  sets_grown [] k lt was now owed last = elim (no k lt) [ ]
+    where
+      no : (k : ℕ) → k < 0 → ⊥
+      no k lt = omega arith
+  sets_grown (t ∷ S) zero lt was now owed last =
+      ap (λ (b : Bool). filter_map changed (map first (map f (cond b (t ∷ filter p S) (filter p S)))) ++ f' t ∷ []) was
+      ∙ ap (λ (l : List SetSeen). filter_map changed (map first (map f l)) ++ f' t ∷ []) (none_in p S (λ j l. last (suc j) (omega arith) (omega (arith, l))))
+      ∙ sym (ap (λ (b : Bool). map f' (cond b (t ∷ filter p' S) (filter p' S))) now
+      ∙ ap (λ (l : List SetSeen). f' t ∷ map f' l) (none_in p' S (λ j l. (owed (suc j) (omega (arith, l)) (λ e. omega (arith, e))).comes (last (suc j) (omega arith) (omega (arith, l))))))
+  sets_grown (t ∷ S) (suc k) lt was now owed last =
+      go (sets_grown S k (omega (arith, lt)) was now (λ j l ne. owed (suc j) (omega (arith, l)) (λ e. ne (omega (arith, e)))) (λ j b l. last (suc j) (omega (arith, b)) (omega (arith, l)))) (p t) (p' t) refl refl
+    where
+      here : Owed p p' f f' first changed t
+      here = owed 0 (omega arith) (λ e. omega (arith, e))
+
+      never : true ≡ false → ⊥
+      never e = cc
+
+      go : filter_map changed (map first (map f (filter p S))) ++ f' (set_of S k) ∷ [] ≡ map f' (filter p' S) → (b b' : Bool) → p t ≡ b → p' t ≡ b'
+          → filter_map changed (map first (map f (cond b (t ∷ filter p S) (filter p S)))) ++ f' (set_of S k) ∷ [] ≡ map f' (cond b' (t ∷ filter p' S) (filter p' S))
+      go rest true true is is' = ap (λ (o : Option ShadowState). cons_option o (filter_map changed (map first (map f (filter p S)))) ++ f' (set_of S k) ∷ []) (here.stays is is') ∙ ap (λ (l : List ShadowState). f' t ∷ l) rest
+      go rest true false is is' = ap (λ (o : Option ShadowState). cons_option o (filter_map changed (map first (map f (filter p S)))) ++ f' (set_of S k) ∷ []) (here.goes is is') ∙ rest
+      go rest false false is is' = rest
+      go rest false true is is' = absurd (never (sym is' ∙ here.comes is))
+
+-- no more is used where a set that is enabled too uses none
+pub less_used_too : (says block : BlockSays) (S : List SetSeen) (o : ℕ) → ((j : ℕ) → j < length S → (is_enabled says (set_of S j) ≡ false → is_enabled block (set_of S j) ≡ false) ⊎ ((set_of S j).over ≡ None))
+    → is_used says S o ≡ false → is_used block S o ≡ false
+less_used_too says block [] o fewer is = refl
+less_used_too says block (t ∷ S) o fewer is =
+    let rest = less_used_too says block S o (λ j l. fewer (suc j) (omega (arith, l))) in
+    elim (fewer 0 (omega arith)) [
+      | inl same ↦ go (is_enabled says t) (is_enabled block t) (is_over t.over o) (is_used says S o) (is_used block S o) same rest is
+      | inr none ↦
+          ap (λ (x : Option ℕ). (is_enabled block t && is_over x o) || is_used block S o) none
+          ∙ ap (λ (x : Bool). x || is_used block S o) (and_false (is_enabled block t))
+          ∙ rest (right (is_enabled says t && is_over t.over o) (is_used says S o) is)
+    ]
+  where
+    never : true ≡ false → ⊥
+    never e = cc
+
+    and_false : (b : Bool) → (b && false) ≡ false
+    and_false true = refl
+    and_false false = refl
+
+    right : (a r : Bool) → (a || r) ≡ false → r ≡ false
+    right true r is = absurd (never is)
+    right false r is = is
+
+    go : (a b x r r' : Bool) → (a ≡ false → b ≡ false) → (r ≡ false → r' ≡ false) → ((a && x) || r) ≡ false → ((b && x) || r') ≡ false
+    go true true true r r' h h' is = absurd (never is)
+    go true true false r r' h h' is = h' is
+    go true false true r r' h h' is = absurd (never is)
+    go true false false r r' h h' is = h' is
+    go false b x r r' h h' is = ap (λ (c : Bool). (c && x) || r') (h refl) ∙ h' is
+
+module _ (says block : BlockSays) (V O : List (Option Seen)) (S : List SetSeen) (changes : List (ℕ × Change)) (note : Option (List ℕ)) (k : ℕ) (lt : k < length S) where
+  abbrev before_it : GroupState
+  before_it = sets_gone changes (group_by says V O S)
+
+  abbrev first_by : ShadowState → ShadowState
+  first_by set = offline_first (change_of changes set.slot) set
+
+  abbrev changed_then : ShadowState → Option ShadowState
+  changed_then set = changed_by changes before_it (change_of changes set.slot) set
+
+  -- what a command owes that enables one set, which uses no overflow volume
+  pub record OwesMore : Type 0 where
+    pub note_is : block.note ≡ unwrap_or note says.note
+    pub sequence_is : block.sequence ≡ next_sequence says.sequence
+    pub new : filter_map (λ one. new_set before_it one) changes ≡ set_by block V O (set_of S k) ∷ []
+    pub was : is_enabled says (set_of S k) ≡ false
+    pub now : is_enabled block (set_of S k) ≡ true
+    pub over : (set_of S k).over ≡ None
+    pub last : (j : ℕ) → k < j → j < length S → is_enabled says (set_of S j) ≡ false
+    pub each : (j : ℕ) → j < length S → j ≢ k → Owed (λ t. is_enabled says t) (λ t. is_enabled block t) (λ t. set_by says V O t) (λ t. set_by block V O t) first_by changed_then (set_of S j)
+    pub images : (v : ℕ) → v < length V → volume_by block V O S v ≡ option_map (λ image. changed_image changes before_it v image) (volume_by says V O S v)
+
+  pub makes_more : OwesMore → group_by block V O S ≡ committed (group_by says V O S) changes note
+  makes_more owes = sym (λ p. record {
+    volumes = (numbered (λ v. volume_by says V O S v) (λ at. option_map (λ image. changed_image changes before_it at.0 image) at.1) (length V) 0 ∙ same_row None (length V) _ _ (λ v l. sym (owes.images v l))) p;
+    overs = ((λ q. map (λ at. used_over (sets_now q) at) (enumerate_from 0 (map (λ o. over_by says O S o) (range_with_len 0 (length O)))))
+        ∙ numbered (λ o. over_by says O S o) (λ at. used_over (map (λ t. set_by block V O t) (filter (λ t. is_enabled block t) S)) at) (length O) 0
+        ∙ same_row None (length O) _ _ (λ o l. over_now o)) p;
+    sets = sets_now p;
+    note = sym owes.note_is p;
+    sequence = sym owes.sequence_is p;
+  })
+    where
+      sets_now : filter_map changed_then before_it.sets ++ filter_map (λ one. new_set before_it one) changes ≡ map (λ t. set_by block V O t) (filter (λ t. is_enabled block t) S)
+      sets_now = ap (λ (l : List ShadowState). filter_map changed_then before_it.sets ++ l) owes.new
+          ∙ sets_grown (λ t. is_enabled says t) (λ t. is_enabled block t) (λ t. set_by says V O t) (λ t. set_by block V O t) first_by changed_then S k lt owes.was owes.now owes.each owes.last
+
+      fewer : (j : ℕ) → j < length S → (is_enabled says (set_of S j) ≡ false → is_enabled block (set_of S j) ≡ false) ⊎ ((set_of S j).over ≡ None)
+      fewer j l = elim (cases_eq j k) [
+        | inl is ↦ inr (ap (λ (x : ℕ). (set_of S x).over) is ∙ owes.over)
+        | inr ne ↦ inl ((owes.each j l ne).comes)
+      ]
+
+      over_now : (o : ℕ) → used_over (map (λ t. set_by block V O t) (filter (λ t. is_enabled block t) S)) (o, over_by says O S o) ≡ over_by block O S o
+      over_now o =
+          ap (λ (b : Bool). cond b (over_by says O S o) None) (uses_same block (λ t. set_by block V O t) (λ t. refl) S o)
+          ∙ used_again (is_used says S o) (is_used block S o) (option_map (λ disk. over_slots disk.size) (get_or O o None)) (less_used_too says block S o fewer)

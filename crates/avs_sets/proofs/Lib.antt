@@ -11,5 +11,14 @@ pub mod Changes
 pub mod Put
 pub mod Putting
 pub mod Found
+pub mod Sources
+pub mod Renewing
+pub mod Restoring
+pub mod Singles
+pub mod Joining
+pub mod Confirming
+pub mod Readable
+pub mod Listed
+pub mod Counted
 pub mod Offlining
 pub mod OwnSlots

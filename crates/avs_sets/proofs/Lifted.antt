@@ -1,20 +1,20 @@
 -- A call on one set, its master's disk and its overflow volume, lifted to the group.
-use Rattle.std.proofs.Common.{◌≡◌, ◌≢◌, ◌⊎◌, inl, inr, ℕ, ◌<◌, Bool, true, false, IsTrue, Option, None, Some, is_some, List, length, set, get_or, Result, ◌∙◌, sym, refl, ap, subst, arith}
+use Rattle.std.proofs.Common.{◌≡◌, ◌≢◌, ◌⊎◌, inl, inr, ℕ, ◌<◌, Bool, true, false, ◌&&◌, IsTrue, Option, None, Some, is_some, List, length, set, get_or, Result, ◌∙◌, sym, refl, ap, subst, arith}
 use Rattle.std.specs.Option.{option_map}
 use Rattle.std.proofs.lemmas.Bool.{cases_eq}
 use Rattle.std.proofs.lemmas.List.{get_or-set_same, get_or-set_other, length-set, get_or_past}
-use Rattle.avs_seg.specs.Image.{Image}
+use Rattle.avs_seg.specs.Image.{Image, block_at}
 use Rattle.avs_dev.specs.Seen.{Seen, IsTold, shown}
 use Rattle.avs_dev.specs.Devices.{AllGoOn}
 use Rattle.avs_dev.proofs.Going.{shown_told}
-use Rattle.avs_model.specs.ShadowSets.{SetSize, ShadowState, is_online, is_offline, is_compact}
+use Rattle.avs_model.specs.ShadowSets.{SetSize, ShadowState, is_online, is_offline, is_exported, is_compact}
 use Rattle.avs_model.specs.Room.{over_slots}
 use Rattle.avs_model.specs.GroupWork.{GroupSpot, StateDisk, VolumeDisk, ShadowDisk, BitmapDisk, OverDisk}
 use Rattle.avs_sets.specs.Sets.{SetSeen, no_set, chunks_of, shadow_disk, disk_of, SetRead, read_from, KeepsMaster, IsAlike}
-use Rattle.avs_sets.specs.Meaning.{GroupSeen, set_of, disk_in, disk_at, image_in, over_disk, over_image, slot_of, is_enabled, chunks_by, read, behind_of, state_of, set_by, group_by}
-use Rattle.avs_sets.specs.Whole.{IsApart, IsFree, IsWholeSet, AreWhole, AreSame, IsStep, IsHeld, IsKept}
-use Rattle.avs_sets.specs.Goes.{IsSameSet, Stays}
-use Rattle.avs_sets.specs.Steps.{SetSpot, OfMaster, OfShadow, OfBitmap, OfOver, set_disks, OnlyDisk, read_over, IsKnown, KeepsSet, KeepsRead}
+use Rattle.avs_sets.specs.Meaning.{GroupSeen, set_of, set_in, disk_in, disk_at, image_in, over_disk, over_image, slot_of, is_enabled, chunks_by, read, behind_of, state_of, set_by, group_by}
+use Rattle.avs_sets.specs.Whole.{IsApart, IsFree, IsWholeSet, AreWhole, AreSame, IsStep, is_away, IsHeld, IsKept, IsHere, AreHere}
+use Rattle.avs_sets.specs.Goes.{IsSameSet, Stays, is_labelled, KeepsLabels}
+use Rattle.avs_sets.specs.Steps.{SetSpot, OfMaster, OfShadow, OfBitmap, OfOver, set_disks, OnlyDisk, read_over, IsKnown, KeepsSet, KeepsRead, KeepsRest}
 use Rattle.avs_sets.proofs.Lists.{changed_at}
 use Rattle.avs_sets.proofs.Lift.{AllStill, Moves, group_moves, whole_moves}
 use Rattle.avs_sets.proofs.Places.{OversStay, all_still, still_apart}
@@ -171,6 +171,43 @@ module _ (g : GroupSeen) (inv : IsKept g.volumes g.overs g.sets) (k : ℕ) (lt :
   pub disks : AllGoOn (disk_at g) r (disk_at (with_step g V' O' k s'))
   disks = all_among _ _ _ _ spot_of among r st.disks
 
+  -- the labels
+  pub labels : KeepsRest (set_of g.sets k) (over_disk g.overs (set_of g.sets k).over) s' (over_disk O' (set_of g.sets k).over) → KeepsLabels g (with_step g V' O' k s')
+  labels kr = record { each = go }
+    where
+      never : false ≡ true → ⊥
+      never e = cc
+
+      bitmap_of : (t u : SetSeen) → t ≡ u → IsTold t.bitmap → IsTold u.bitmap
+      bitmap_of t u is told = subst (λ (x : SetSeen). IsTold x.bitmap) is told
+
+      own_bitmap : IsTold (set_in g.sets (set_of g.sets k).slot).bitmap → block_at (set_in (set g.sets k s') (set_of g.sets k).slot).bitmap.image 0 ≡ block_at (set_in g.sets (set_of g.sets k).slot).bitmap.image 0
+      own_bitmap told =
+          let was = set_in_own g.sets k lt own_slot in
+          ap (λ (t : SetSeen). block_at t.bitmap.image 0) (set_in_now g.sets k s' lt st.same.slot own_slot)
+          ∙ kr.label (bitmap_of _ _ was told)
+          ∙ sym (ap (λ (t : SetSeen). block_at t.bitmap.image 0) was)
+
+      own_over : IsTold (disk_in g.overs (number_in g.overs (set_of g.sets k).over)) → block_at (disk_in O' (number_in g.overs (set_of g.sets k).over)).image 0 ≡ block_at (disk_in g.overs (number_in g.overs (set_of g.sets k).over)).image 0
+      own_over told =
+          let was = disk_was g.overs O' (set_of g.sets k).over in
+          ap (λ (d : Seen). block_at d.image 0) (disk_now g.overs O' (set_of g.sets k).over only_o)
+          ∙ kr.over_label (subst (λ (d : Seen). IsTold d) was told)
+          ∙ sym (ap (λ (d : Seen). block_at d.image 0) was)
+
+      go : (spot : GroupSpot) → is_labelled spot ≡ true → IsTold (disk_at g spot) → block_at (disk_at (with_step g V' O' k s') spot).image 0 ≡ block_at (disk_at g spot).image 0
+      go StateDisk is told = refl
+      go (VolumeDisk v) is told = absurd (never is)
+      go (ShadowDisk slot) is told = absurd (never is)
+      go (BitmapDisk slot) is told = elim (cases_eq slot (set_of g.sets k).slot) [
+        | inl same ↦ subst (λ (n : ℕ). IsTold (set_in g.sets n).bitmap → block_at (set_in (set g.sets k s') n).bitmap.image 0 ≡ block_at (set_in g.sets n).bitmap.image 0) (sym same) own_bitmap told
+        | inr ne ↦ ap (λ (t : SetSeen). block_at t.bitmap.image 0) (set_in_other g.sets k s' slot lt st.same.slot ne)
+      ]
+      go (OverDisk o) is told = elim (disk_other g.overs O' (set_of g.sets k).over only_o o) [
+        | inl same ↦ subst (λ (n : ℕ). IsTold (disk_in g.overs n) → block_at (disk_in O' n).image 0 ≡ block_at (disk_in g.overs n).image 0) (sym same) own_over told
+        | inr same ↦ ap (λ (d : Seen). block_at d.image 0) same
+      ]
+
   -- what is kept whatever fails
   pub set_kept : IsKept V' O' (set g.sets k s')
   set_kept = record { few = omega (arith, inv.few, length-set g.sets k s'); held = each; distinct = apart }
@@ -206,6 +243,24 @@ module _ (g : GroupSeen) (inv : IsKept g.volumes g.overs g.sets) (k : ℕ) (lt :
       apart : (i j : ℕ) → i < length (set g.sets k s') → j < length (set g.sets k s') → (set_of (set g.sets k s') i).slot ≡ (set_of (set g.sets k s') j).slot → i ≡ j
       apart i j li lj same = inv.distinct i j (omega (arith, li, length-set g.sets k s')) (omega (arith, lj, length-set g.sets k s')) (sym (slot_same i) ∙ same ∙ slot_same j)
 
+  -- and each set has its shadow's disk, or needs it for no chunk
+  pub here_kept : KeepsRest (set_of g.sets k) (over_disk g.overs (set_of g.sets k).over) s' (over_disk O' (set_of g.sets k).over) → AreHere g.memory g.sets → AreHere g.memory (set g.sets k s')
+  here_kept kr are = record {
+    each = λ j l. elim (cases_eq j k) [
+      | inl same ↦ subst (λ (t : SetSeen). IsHere g.memory t) (sym (ap (λ (x : ℕ). set_of (set g.sets k s') x) same ∙ here)) own
+      | inr ne ↦ subst (λ (t : SetSeen). IsHere g.memory t) (sym (there j ne)) (are.each j (omega (arith, l, length-set g.sets k s')))
+    ];
+  }
+    where
+      away_same : is_away g.memory s' ≡ is_away g.memory (set_of g.sets k)
+      away_same = ap (λ (n : ℕ). (g.memory.slots n).enabled && is_exported (g.memory.slots n).standing) st.same.slot
+
+      own : IsHere g.memory s'
+      own = record {
+        there = λ away. subst (λ (b : Bool). IsTrue b) (sym kr.there) ((are.each k lt).there (sym away_same ∙ away));
+        settled = λ away. kr.settled ((are.each k lt).settled (sym away_same ∙ away));
+      }
+
   -- ---- what the group stands for
 
   module _ (live : is_enabled g.says (set_of g.sets k) ≡ true) (w : AreWhole g.says g.volumes g.overs g.sets) (step : IsStep g.says (set_of g.sets k))
@@ -227,7 +282,7 @@ module _ (g : GroupSeen) (inv : IsKept g.volumes g.overs g.sets) (k : ℕ) (lt :
       bitmap = (w.each k lt).bitmap;
       over_told = over_told (set_of g.sets k).over;
       area = step.area live;
-      chunks = subst (λ (b : Bool). AreSame ((set_of g.sets k).area b) (set_of g.sets k).memory (chunks_of (set_of g.sets k))) (step.area live) step.chunks;
+      chunks = subst (λ (b : Bool). AreSame ((set_of g.sets k).area b) (set_of g.sets k).memory (chunks_of (set_of g.sets k))) (step.area live) (step.chunks live);
     }
 
     reads : KeepsRead g.says mine (set_of g.sets k) master_was (over_disk g.overs (set_of g.sets k).over) s' master_now (over_disk O' (set_of g.sets k).over)
@@ -306,6 +361,6 @@ module _ (g : GroupSeen) (inv : IsKept g.volumes g.overs g.sets) (k : ℕ) (lt :
         → (j : ℕ) → j < length (set g.sets k s') → IsStep g.says (set_of (set g.sets k s') j)
     now_step kn steps j l = elim (cases_eq j k) [
       | inl same ↦ subst (λ (t : SetSeen). IsStep g.says t) (sym (ap (λ (x : ℕ). set_of (set g.sets k s') x) same ∙ here))
-          (record { area = λ live. kn.area; chunks = subst (λ (b : Bool). AreSame (s'.area b) s'.memory (chunks_of s')) (sym kn.area) kn.chunks })
+          (record { area = λ live. kn.area; chunks = λ live. subst (λ (b : Bool). AreSame (s'.area b) s'.memory (chunks_of s')) (sym kn.area) kn.chunks })
       | inr ne ↦ subst (λ (t : SetSeen). IsStep g.says t) (sym (there j ne)) (steps j (omega (arith, l, length-set g.sets k s')))
     ]

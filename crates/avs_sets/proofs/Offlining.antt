@@ -228,7 +228,7 @@ offline_goes g block gone puts r new cm = commit_goes g block (Commit (map goes_
     (λ w i. offline_whole g.says block g.volumes g.overs g.sets gone (on_disk i) w.disks)
     (λ w i k lt. record {
       area = λ live. (step i k lt).area (sym (enabled_same g.says block g.volumes g.overs g.sets gone (on_disk i) k lt) ∙ live) ∙ sym (area_same g.says block g.volumes g.overs g.sets gone (on_disk i) k lt);
-      chunks = (step i k lt).chunks;
+      chunks = λ live. (step i k lt).chunks (sym (enabled_same g.says block g.volumes g.overs g.sets gone (on_disk i) k lt) ∙ live);
     })
   where
     on_disk : IsInStep g → PutsOffline g.says block g.sets gone

@@ -5,15 +5,11 @@ use Rattle.avs_sets.specs.Says.{BlockSays}
 use Rattle.avs_sets.specs.Sets.{OwnSlot, OverSlot, SetSeen, block_in}
 use Rattle.avs_sets.specs.Meaning.{chunks_by}
 use Rattle.avs_sets.specs.Whole.{IsPlaced, AreSlotsApart}
-use Rattle.avs_sets.specs.Steps.{KeepsSlots, TakesPlaces}
+use Rattle.avs_sets.specs.Steps.{no_slot, KeepsSlots, TakesPlaces}
 
 -- block i of the shadow is block i of its disk
 pub own_block : (shadow over : Image) (i : ℕ) → block_in shadow over (OwnSlot (i / 64)) i ≡ block_at shadow i
 own_block shadow over i = let e : 64 * (i / 64) + i % 64 ≡ i = omega arith in ap (λ (n : ℕ). block_at shadow n) e
-
--- of no set are these the slots
-abbrev pub no_slot : ℕ → Type 0
-no_slot slot = ⊥
 
 pub own_keeps : (img : Image) → KeepsSlots no_slot img img
 own_keeps img = record { outside = λ slot i lt other. refl }

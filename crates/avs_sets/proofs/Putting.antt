@@ -3,7 +3,7 @@ use Rattle.std.proofs.Common.{◌≡◌, ◌≢◌, ◌⊎◌, inl, inr, ℕ, ze
 use Rattle.std.specs.Option.{option_map_or}
 use Rattle.std.proofs.lemmas.Bool.{cases_eq, eq-eqb, ne_eqb}
 use Rattle.std.proofs.lemmas.Result.{on_ok_weaker, on_err_weaker}
-use Rattle.avs_seg.specs.Image.{Image, blocks_of, put, IsMix, ChangesWithin}
+use Rattle.avs_seg.specs.Image.{Image, block_at, blocks_of, put, IsMix, ChangesWithin}
 use Rattle.avs_seg.proofs.Exits.{ok_exit}
 use Rattle.avs_seg.proofs.Bytes.{length-blocks_of}
 use Rattle.avs_dev.specs.Seen.{Seen, IsTold, shown, Writes}
@@ -17,7 +17,7 @@ use Rattle.avs_sets.specs.Says.{BlockSays}
 use Rattle.avs_sets.specs.Sets.{SetSeen, disk_of, chunks_of}
 use Rattle.avs_sets.specs.Meaning.{GroupSeen, set_of, disk_in, disk_at, over_disk, slot_of, is_enabled, standing_of, chunks_by, contents_by, lists_by, shadow_over, behind_of, set_by, meaning}
 use Rattle.avs_sets.specs.Whole.{IsFree, IsWhole, IsStep, IsInStep, IsKept}
-use Rattle.avs_sets.specs.Goes.{Goes}
+use Rattle.avs_sets.specs.Goes.{is_labelled, KeepsLabels, Goes}
 use Rattle.avs_sets.specs.Steps.{OnlyDisk, read_over, AreSaved, PutsShadow}
 use Rattle.avs_sets.proofs.Marks.{lists_same}
 use Rattle.avs_sets.proofs.Chains.{same_set}
@@ -94,7 +94,7 @@ module _ (g : GroupSeen) (inv : IsKept g.volumes g.overs g.sets) (v : ℕ) (ther
     by_disk : (k : ℕ) → k < length g.sets → is_enabled g.says (set_of g.sets k) ≡ true → (c : ℕ) → c < chunks_of (set_of g.sets k) → (set_of g.sets k).memory.state c ≡ (chunks_by g.says (set_of g.sets k)).state c
     by_disk k lt live c l =
         let step = subst (λ (b : BlockSays). IsStep b (set_of g.sets k)) i.block (i.each k lt) in
-        step.chunks.state c l ∙ ap (λ (b : Bool). ((set_of g.sets k).area b).state c) (step.area live)
+        (step.chunks live).state c l ∙ ap (λ (b : Bool). ((set_of g.sets k).area b).state c) (step.area live)
 
     saved_on : AreSavedOn g.says g.sets v at (length (blocks_of bytes))
     saved_on = record {
@@ -110,6 +110,19 @@ module _ (g : GroupSeen) (inv : IsKept g.volumes g.overs g.sets) (v : ℕ) (ther
     done_now : (disk_in V' v).image ≡ put (disk_in g.volumes v).image at (blocks_of bytes) → meaning new ≡ after_stage (meaning g) (PutVolume v at (blocks_of bytes))
     done_now is = put_done g.says g.volumes V' g.overs g.sets v (disk_in g.volumes v) (disk_in V' v) there (some_is _ seat) (some_is _ (only.seat v refl)) others only.long at (blocks_of bytes) changes fits saved_on
         (shown_now ∙ is ∙ ap (λ (x : Image). put x at (blocks_of bytes)) (sym shown_was))
+
+  put_label : (spot : GroupSpot) → is_labelled spot ≡ true → IsTold (disk_at g spot) → block_at (disk_at new spot).image 0 ≡ block_at (disk_at g spot).image 0
+  put_label StateDisk is told = refl
+  put_label (VolumeDisk w) is told = absurd (never is)
+    where
+      never : false ≡ true → ⊥
+      never e = cc
+  put_label (ShadowDisk slot) is told = refl
+  put_label (BitmapDisk slot) is told = refl
+  put_label (OverDisk o) is told = refl
+
+  pub put_labels : KeepsLabels g new
+  put_labels = record { each = put_label }
 
   pub put_goes : Goes g (PutVolume v at (blocks_of bytes) ∷ []) r new
   put_goes = record {

@@ -12,7 +12,7 @@ use Rattle.avs_sets.specs.Sets.{SetSeen, chunks_of}
 use Rattle.avs_sets.specs.Meaning.{GroupSeen, set_of, disk_in, disk_at, over_disk, slot_of, is_enabled, standing_of, chunks_by, behind_of, state_of, set_by, meaning}
 use Rattle.avs_sets.specs.Whole.{IsFree, IsWhole, IsStep, IsInStep, IsKept}
 use Rattle.avs_sets.specs.Goes.{Goes}
-use Rattle.avs_sets.specs.Steps.{OnlyDisk, read_over, IsKnown, KeepsSet, SetsOne, StatesSame, Settles}
+use Rattle.avs_sets.specs.Steps.{OnlyDisk, read_over, IsKnown, KeepsSet, ShowsSame, SetsOne, StatesSame, Settles}
 use Rattle.avs_sets.proofs.Lists.{changed_at, changed_nothing}
 use Rattle.avs_sets.proofs.Marks.{state_same, state_written, state_copied, lists_spared}
 use Rattle.avs_sets.proofs.Chains.{stays_same}
@@ -94,6 +94,13 @@ module _ (g : GroupSeen) (inv : IsKept g.volumes g.overs g.sets) (k : ℕ) (lt :
         everywhere (Result.Ok x) e = tt
         everywhere (Result.Err x) e = e
 
+  -- ---- nothing that is seen changes
+
+  module _ (st : ShowsSame g.says mine (set_of g.sets k) (disk_in g.volumes (set_of g.sets k).master) (over_disk g.overs (set_of g.sets k).over) r s' (disk_in V' (set_of g.sets k).master) (over_disk O' (set_of g.sets k).over)) where
+    pub still_goes : Goes g [] r (with_step g V' O' k s')
+    still_goes = set_shows st.keeps (λ kn. state_same (slot_of g.says (set_of g.sets k)) (set_of g.sets k) s' st.keeps.same _ _ _ _ _ _
+        (ap (λ (s : SetSize). s.blocks) st.keeps.same.size) (st.shadow kn).shadow (st.keeps.read kn).behind (st.same kn).each)
+
   -- ---- a chunk is settled
 
   module _ (chunk target : ℕ) (there : chunk < chunks_of (set_of g.sets k))
@@ -170,7 +177,7 @@ spared g inv k lt chunk there live dependent ne x = record {
     state_ne i three =
         let here = subst (λ (b : BlockSays). is_enabled b (set_of g.sets k) ≡ true) i.block live in
         let step = subst (λ (b : BlockSays). IsStep b (set_of g.sets k)) i.block (i.each k lt) in
-        ne (step.chunks.state chunk there ∙ ap (λ (b : Bool). ((set_of g.sets k).area b).state chunk) (step.area here) ∙ three)
+        ne ((step.chunks here).state chunk there ∙ ap (λ (b : Bool). ((set_of g.sets k).area b).state chunk) (step.area here) ∙ three)
 
     one : IsInStep g → (j : ℕ) → j < length g.sets → (set_of g.sets j).slot ≡ (set_of g.sets k).slot → chunk_copied chunk (set_by g.says g.volumes g.overs (set_of g.sets j)) ≡ set_by g.says g.volumes g.overs (set_of g.sets j)
     one i j l is = subst (λ (n : ℕ). chunk_copied chunk (set_by g.says g.volumes g.overs (set_of g.sets n)) ≡ set_by g.says g.volumes g.overs (set_of g.sets n)) (sym (inv.distinct j k l lt is))

@@ -4,3 +4,5 @@ pub mod Meaning
 pub mod Whole
 pub mod Goes
 pub mod Steps
+pub mod Commands
+pub mod Counting

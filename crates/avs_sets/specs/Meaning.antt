@@ -13,8 +13,9 @@ use Rattle.avs_model.specs.declared.shadow.Kind.{Kind}
 use Rattle.avs_sets.specs.Says.{SlotSays, BlockSays}
 use Rattle.avs_sets.specs.Sets.{on_master, split, on_shadow, ChunkMap, SetSeen, no_set, absent, disk_of, shadow_disk, SetRead, read_from, shadow_block}
 
--- A group: its state disk; what the block there says, and the block in memory; the disks of the volumes and of the overflow volumes by
--- number, where a hole has none; and the sets in order of enabling, those that are not enabled yet behind them.
+-- A group: its state disk; what the block there says, and the block in memory; the disks of the
+-- volumes and of the overflow volumes by number, where a hole has none; and the sets in order of
+-- enabling, those that are not enabled yet behind them.
 pub record GroupSeen : Type 0 where
   pub state : Seen
   pub says : BlockSays
@@ -75,9 +76,11 @@ read says overs s = read_from (chunks_by says s) s.size.blocks (shown (shadow_di
 
 -- whether block i of a volume stands on the shadow of this set alone
 abbrev pub is_back : BlockSays → ℕ → ℕ → SetSeen → Bool
-is_back says volume i s = is_enabled says s && (s.master == volume && (chunks_by says s).state (i / 64) == on_shadow)
+is_back says volume i s = is_enabled says s
+    && (s.master == volume && (chunks_by says s).state (i / 64) == on_shadow)
 
--- block i of a volume: it is picked from the set on whose shadow it stands alone, else it is the disk's
+-- block i of a volume: it is picked from the set on whose shadow it stands alone, else it is the
+-- disk's
 abbrev pub pick : BlockSays → List (Option Seen) → List SetSeen → ℕ → ℕ → Block → Block
 pick says overs [] volume i block = block
 pick says overs (s ∷ sets) volume i block =
@@ -87,7 +90,8 @@ pick says overs (s ∷ sets) volume i block =
 abbrev pub picked : BlockSays → List (Option Seen) → List SetSeen → ℕ → Image → Image
 picked says overs sets volume image = tabulate (length image) (λ i. pick says overs sets volume i (block_at image i))
 
-abbrev pub volume_by : BlockSays → List (Option Seen) → List (Option Seen) → List SetSeen → ℕ → Option Image
+abbrev pub volume_by : BlockSays → List (Option Seen) → List (Option Seen) → List SetSeen → ℕ
+    → Option Image
 volume_by says volumes overs sets volume =
     option_map (λ disk. picked says overs sets volume (shown disk)) (slice_index_or volumes volume None)
 
@@ -98,7 +102,8 @@ abbrev pub chunks_with : ℕ → (ℕ → ℕ) → ℕ → ChunkList
 chunks_with blocks state wanted chunk = nat_lt chunk (seg_count blocks) && state chunk == wanted
 
 abbrev pub chunks_touched : ℕ → (ℕ → ℕ) → ChunkList
-chunks_touched blocks state chunk = nat_lt chunk (seg_count blocks) && not (state chunk == on_master)
+chunks_touched blocks state chunk = nat_lt chunk (seg_count blocks)
+    && not (state chunk == on_master)
 
 abbrev pub lists_by : Kind → ℕ → (ℕ → ℕ) → Bool → ChunkLists
 lists_by kind blocks state stopped = record {
@@ -122,7 +127,8 @@ shadow_over one master = tabulate one.blocks (λ i. shadow_block one master i)
 abbrev pub behind_of : SetSeen → Image
 behind_of s = drop s.size.blocks (shown (shadow_disk s))
 
--- a set by what is said of its slot, what is read of it, an image of the master's disk, and the blocks behind
+-- a set by what is said of its slot, what is read of it, an image of the master's disk, and the
+-- blocks behind
 abbrev pub state_of : SetSeen → SlotSays → SetRead → Image → Image → ShadowState
 state_of s slot one master behind = record {
   slot = s.slot;
@@ -151,7 +157,8 @@ abbrev pub over_by : BlockSays → List (Option Seen) → List SetSeen → ℕ �
 over_by says overs sets over =
     if is_used says sets over then option_map (λ disk. over_slots disk.size) (slice_index_or overs over None) else None
 
-abbrev pub group_by : BlockSays → List (Option Seen) → List (Option Seen) → List SetSeen → GroupState
+abbrev pub group_by : BlockSays → List (Option Seen) → List (Option Seen) → List SetSeen
+    → GroupState
 group_by says volumes overs sets = record {
   volumes = map (λ v. volume_by says volumes overs sets v) (range_with_len 0 (length volumes));
   overs = map (λ o. over_by says overs sets o) (range_with_len 0 (length overs));

@@ -1,5 +1,5 @@
--- A shadow set as its group sees it, whatever its kind: its place in the group, its disks, and of each chunk the state and where its own
--- contents stand.
+-- A shadow set as its group sees it, whatever its kind: its place in the group, its disks, and of
+-- each chunk the state and where its own contents stand.
 use Rattle.std.specs.Prelude.{◌≡◌, ◌≢◌, ℕ, ◌+◌, ◌*◌, ◌/◌, ◌%◌, ◌<◌, ◌==◌, Bool, true, false, if◌then◌else◌, Option, None, Some, []}
 use Rattle.avs_seg.specs.Image.{Block, Image, block_at}
 use Rattle.avs_seg.specs.Segment.{seg_count}
@@ -21,8 +21,8 @@ split = 2
 abbrev pub on_shadow : ℕ
 on_shadow = 3
 
--- where a chunk's own contents stand: in a slot of 64 blocks of the shadow's volume, or of the overflow volume behind its first block. A
--- set that is not compact has chunk c in slot c.
+-- where a chunk's own contents stand: in a slot of 64 blocks of the shadow's volume, or of the
+-- overflow volume behind its first block. A set that is not compact has chunk c in slot c.
 pub data ChunkPlace : Type 0 where
   OwnSlot : ℕ → ChunkPlace
   OverSlot : ℕ → ChunkPlace
@@ -32,9 +32,10 @@ pub record ChunkMap : Type 0 where
   pub state : ℕ → ℕ
   pub place : ℕ → ChunkPlace
 
--- A set: its slot; its kind; the number of its master; its size; the number of its overflow volume; the shadow's disk, where it is
--- there; the bitmap's disk; its two areas, of which `area true` is the second; the same in memory, live and staged; and which area the
--- memory takes for the live one.
+-- A set: its slot; its kind; the number of its master; its size; the number of its overflow volume;
+-- the shadow's disk, where it is there; the bitmap's disk; its two areas, of which `area true` is
+-- the second; the same in memory, live and staged; and which area the memory takes for the live
+-- one.
 pub record SetSeen : Type 0 where
   pub slot : ℕ
   pub kind : Kind
@@ -83,7 +84,8 @@ no_set = record {
 abbrev pub chunks_of : SetSeen → ℕ
 chunks_of s = seg_count s.size.blocks
 
--- What is read of a set: how many blocks it has, the state of each chunk, and each block where its chunk has contents of its own.
+-- What is read of a set: how many blocks it has, the state of each chunk, and each block where its
+-- chunk has contents of its own.
 pub record SetRead : Type 0 where
   pub blocks : ℕ
   pub state : ℕ → ℕ
@@ -110,11 +112,13 @@ master_block s m i = if s.state (i / 64) == on_shadow then s.stands i else block
 pub record IsAlike (s : SetRead) (m : Image) : Type 0 where
   pub same : (i : ℕ) → i < s.blocks → s.state (i / 64) ≡ on_both → s.stands i ≡ block_at m i
 
--- What a step of a set and its master's disk keeps: the blocks of the master's image; and the master's disk changes only where its
--- contents stand on the shadow alone. No chunk comes to stand there alone, and none ceases to be split. Each kind of set gives this.
+-- What a step of a set and its master's disk keeps: the blocks of the master's image; and the
+-- master's disk changes only where its contents stand on the shadow alone. No chunk comes to stand
+-- there alone, and none ceases to be split. Each kind of set gives this.
 pub record KeepsMaster (old : SetRead) (m : Image) (new : SetRead) (m_new : Image) : Type 0 where
   pub master : (i : ℕ) → i < old.blocks → master_block new m_new i ≡ master_block old m i
-  pub only : (i : ℕ) → i < old.blocks → old.state (i / 64) ≢ on_shadow → block_at m_new i ≡ block_at m i
+  pub only : (i : ℕ) → i < old.blocks → old.state (i / 64) ≢ on_shadow → block_at m_new i
+      ≡ block_at m i
   pub alike : IsAlike old m → IsAlike new m_new
   pub back : (c : ℕ) → c < seg_count old.blocks → new.state c ≡ on_shadow → old.state c ≡ on_shadow
   pub splits : (c : ℕ) → c < seg_count old.blocks → old.state c ≡ split → new.state c ≡ split

@@ -1,4 +1,5 @@
--- What a step of one set gives its group, whatever the kind of the set: each crate of sets gives these relations of its calls.
+-- What a step of one set gives its group, whatever the kind of the set: each crate of sets gives
+-- these relations of its calls.
 use Rattle.std.specs.Prelude.{◌≡◌, ◌≢◌, ◌⊎◌, ℕ, ◌+◌, ◌*◌, ◌/◌, ◌<◌, ◌≤◌, true, false, IsTrue, Option, None, Some, is_some, List, length, slice_index_or, Result, OnOk, OnErr}
 use Rattle.avs_seg.specs.Image.{Image, block_at}
 use Rattle.avs_dev.specs.Seen.{Seen, IsTold, shown}
@@ -9,7 +10,7 @@ use Rattle.avs_seg.specs.Segment.{seg_count}
 use Rattle.avs_seg.specs.Image.{IsMix, put}
 use Rattle.avs_model.specs.ShadowSets.{is_offline}
 use Rattle.avs_sets.specs.Meaning.{GroupSeen, set_of, slot_of, is_enabled, standing_of, chunks_by, shadow_over, behind_of}
-use Rattle.avs_sets.specs.Whole.{IsPlaced, AreSame}
+use Rattle.avs_sets.specs.Whole.{IsPlaced, AreSame, IsSettled}
 use Rattle.avs_sets.specs.Goes.{IsSameSet}
 
 -- the disks of a step: of the master, of the shadow, of the bitmap, and of the overflow volume
@@ -44,33 +45,51 @@ pub record IsKnown (says : BlockSays) (s : SetSeen) (m over : Seen) : Type 0 whe
   pub area : s.live_b ≡ (slot_of says s).area_b
   pub chunks : AreSame (chunks_by says s) s.memory (chunks_of s)
 
+-- of no set are these the slots: a set that is not compact writes none
+abbrev pub no_slot : ℕ → Type 0
+no_slot slot = ⊥
+
 -- of an overflow volume nothing changes but in slots that are the set's
 pub record KeepsSlots (mine : ℕ → Type 0) (old new : Image) : Type 0 where
-  pub outside : (slot i : ℕ) → i < 64 → (mine slot → ⊥) → block_at new (1 + (64 * slot + i)) ≡ block_at old (1 + (64 * slot + i))
+  pub outside : (slot i : ℕ) → i < 64 → (mine slot → ⊥) → block_at new (1 + (64 * slot + i))
+      ≡ block_at old (1 + (64 * slot + i))
 
--- each chunk with contents of its own has them where it had them, or in one of the set's own slots, or in such a slot of its
--- overflow volume
+-- each chunk with contents of its own has them where it had them, or in one of the set's own slots,
+-- or in such a slot of its overflow volume
 pub record TakesPlaces (says : BlockSays) (mine : ℕ → Type 0) (old new : SetSeen) : Type 0 where
   pub each : (c : ℕ) → (chunks_by says new).state c ≢ on_master
-      → (((chunks_by says old).state c ≢ on_master) × ((chunks_by says new).place c ≡ (chunks_by says old).place c))
-      ⊎ (((slot : ℕ) × ((chunks_by says new).place c ≡ OwnSlot slot)) ⊎ ((slot : ℕ) × (mine slot × ((chunks_by says new).place c ≡ OverSlot slot))))
+      → (((chunks_by says old).state c ≢ on_master)
+      × ((chunks_by says new).place c ≡ (chunks_by says old).place c))
+      ⊎ (((slot : ℕ) × ((chunks_by says new).place c ≡ OwnSlot slot))
+      ⊎ ((slot : ℕ) × (mine slot × ((chunks_by says new).place c ≡ OverSlot slot))))
 
 -- what a step keeps of what a set's master, its overflow volume and other sets stand for
-pub record KeepsRead (says : BlockSays) (mine : ℕ → Type 0) (old : SetSeen) (m over : Seen) (new : SetSeen) (m_new over_new : Seen) : Type 0 where
+pub record KeepsRead (says : BlockSays) (mine : ℕ → Type 0) (old : SetSeen) (m over : Seen)
+    (new : SetSeen) (m_new over_new : Seen) : Type 0 where
   pub master : KeepsMaster (read_over says old over) (shown m) (read_over says new over_new) (shown m_new)
   pub behind : behind_of new ≡ behind_of old
   pub slots : KeepsSlots mine (shown over) (shown over_new)
   pub takes : TakesPlaces says mine old new
   pub placed : IsPlaced says old → IsPlaced says new
 
--- What each call that works on a set and its master keeps, at both exits. `mine` are the slots of the overflow volume that it may write:
--- they are this set's, or no set's.
-pub record KeepsSet {T E : Type 0} (says : BlockSays) (mine : ℕ → Type 0) (old : SetSeen) (m over : Seen) (result : Result T E) (new : SetSeen) (m_new over_new : Seen) : Type 0 where
+-- What each call that works on a set and its master keeps, at both exits. `mine` are the slots of
+-- the overflow volume that it may write: they are this set's, or no set's.
+pub record KeepsSet {T E : Type 0} (says : BlockSays) (mine : ℕ → Type 0) (old : SetSeen)
+    (m over : Seen) (result : Result T E) (new : SetSeen) (m_new over_new : Seen) : Type 0 where
   pub same : IsSameSet old new
   pub live_b : new.live_b ≡ old.live_b
   pub disks : AllGoOn (set_disks m old over) result (set_disks m_new new over_new)
   pub known : IsKnown says old m over → OnOk result (IsKnown says new m_new over_new)
   pub read : IsKnown says old m over → KeepsRead says mine old m over new m_new over_new
+
+-- What each of these calls keeps of a set beside, with no premise: its shadow's disk is there as
+-- before, by the memory no chunk comes to have its contents on one disk alone, and the labels of
+-- its bitmap and of its overflow volume stay.
+pub record KeepsRest (old : SetSeen) (over : Seen) (new : SetSeen) (over_new : Seen) : Type 0 where
+  pub there : is_some new.shadow ≡ is_some old.shadow
+  pub settled : IsSettled old → IsSettled new
+  pub label : IsTold old.bitmap → block_at new.bitmap.image 0 ≡ block_at old.bitmap.image 0
+  pub over_label : IsTold over → block_at over_new.image 0 ≡ block_at over.image 0
 
 -- of a set one state is another, or all states are as before
 pub record SetsOne (old new : ℕ → ℕ) (chunks chunk state : ℕ) : Type 0 where
@@ -80,25 +99,51 @@ pub record SetsOne (old new : ℕ → ℕ) (chunks chunk state : ℕ) : Type 0 w
 pub record StatesSame (old new : ℕ → ℕ) (chunks : ℕ) : Type 0 where
   pub each : (c : ℕ) → c < chunks → new c ≡ old c
 
--- the contents of a chunk are copied where they stand on one disk alone, and then it has a state: split, or the same on both
-pub record Settles {T E : Type 0} (says : BlockSays) (mine : ℕ → Type 0) (old : SetSeen) (m over : Seen) (chunk target : ℕ) (result : Result T E) (new : SetSeen) (m_new over_new : Seen) : Type 0 where
+-- a step that changes nothing that is seen: blocks are read, or copied ahead, or staged
+pub record ShowsSame {T E : Type 0} (says : BlockSays) (mine : ℕ → Type 0) (old : SetSeen)
+    (m over : Seen) (result : Result T E) (new : SetSeen) (m_new over_new : Seen) : Type 0 where
   pub keeps : KeepsSet says mine old m over result new m_new over_new
-  pub shadow : IsKnown says old m over → KeepsShadow (read_over says old over) (shown m) (read_over says new over_new) (shown m_new)
-  pub done : IsKnown says old m over → OnOk result (SetsOne (chunks_by says old).state (chunks_by says new).state (chunks_of old) chunk target)
+  pub shadow : IsKnown says old m over
+      → KeepsShadow (read_over says old over) (shown m) (read_over says new over_new) (shown m_new)
+  pub same : IsKnown says old m over
+      → StatesSame (chunks_by says old).state (chunks_by says new).state (chunks_of old)
+
+-- the contents of a chunk are copied where they stand on one disk alone, and then it has a state:
+-- split, or the same on both
+pub record Settles {T E : Type 0} (says : BlockSays) (mine : ℕ → Type 0) (old : SetSeen)
+    (m over : Seen) (chunk target : ℕ) (result : Result T E) (new : SetSeen)
+    (m_new over_new : Seen) : Type 0 where
+  pub keeps : KeepsSet says mine old m over result new m_new over_new
+  pub shadow : IsKnown says old m over
+      → KeepsShadow (read_over says old over) (shown m) (read_over says new over_new) (shown m_new)
+  pub done : IsKnown says old m over
+      → OnOk result (SetsOne (chunks_by says old).state (chunks_by says new).state (chunks_of old) chunk target)
   pub stopped : IsKnown says old m over
       → OnErr result (StatesSame (chunks_by says old).state (chunks_by says new).state (chunks_of old)
       ⊎ SetsOne (chunks_by says old).state (chunks_by says new).state (chunks_of old) chunk target)
 
 -- blocks of the shadow are written whose chunks are split: no state changes
-pub record PutsShadow {T E : Type 0} (says : BlockSays) (mine : ℕ → Type 0) (old : SetSeen) (m over : Seen) (at : ℕ) (bs : Image) (result : Result T E) (new : SetSeen) (m_new over_new : Seen) : Type 0 where
+pub record PutsShadow {T E : Type 0} (says : BlockSays) (mine : ℕ → Type 0) (old : SetSeen)
+    (m over : Seen) (at : ℕ) (bs : Image) (result : Result T E) (new : SetSeen)
+    (m_new over_new : Seen) : Type 0 where
   pub keeps : KeepsSet says mine old m over result new m_new over_new
-  pub same : IsKnown says old m over → StatesSame (chunks_by says old).state (chunks_by says new).state (chunks_of old)
-  pub done : IsKnown says old m over → OnOk result (shadow_over (read_over says new over_new) (shown m_new) ≡ put (shadow_over (read_over says old over) (shown m)) at bs)
-  pub stopped : IsKnown says old m over → OnErr result (IsMix (shadow_over (read_over says old over) (shown m)) at bs (shadow_over (read_over says new over_new) (shown m_new)))
+  pub same : IsKnown says old m over
+      → StatesSame (chunks_by says old).state (chunks_by says new).state (chunks_of old)
+  pub done : IsKnown says old m over
+      → OnOk result (shadow_over (read_over says new over_new) (shown m_new)
+      ≡ put (shadow_over (read_over says old over) (shown m)) at bs)
+  pub stopped : IsKnown says old m over
+      → OnErr result (IsMix (shadow_over (read_over says old over) (shown m)) at bs (shadow_over (read_over says new over_new) (shown m_new)))
 
--- by the memory the chunks of a range of a volume are saved in all its sets: split, and in a set that is offline not on the shadow alone
+-- by the memory the chunks of a range of a volume are saved in all its sets: split, and in a set
+-- that is offline not on the shadow alone
 pub record AreSaved (g : GroupSeen) (volume at n : ℕ) : Type 0 where
-  pub online : (k : ℕ) → k < length g.sets → is_enabled g.memory (set_of g.sets k) ≡ true → is_offline (standing_of g.memory (set_of g.sets k)) ≡ false → (set_of g.sets k).master ≡ volume
-      → (c : ℕ) → at / 64 ≤ c → c < seg_count (at + n) → c < chunks_of (set_of g.sets k) → (set_of g.sets k).memory.state c ≡ split
-  pub none : (k : ℕ) → k < length g.sets → is_enabled g.memory (set_of g.sets k) ≡ true → (set_of g.sets k).master ≡ volume
-      → (c : ℕ) → at / 64 ≤ c → c < seg_count (at + n) → c < chunks_of (set_of g.sets k) → (set_of g.sets k).memory.state c ≢ on_shadow
+  pub online : (k : ℕ) → k < length g.sets → is_enabled g.memory (set_of g.sets k) ≡ true
+      → is_offline (standing_of g.memory (set_of g.sets k)) ≡ false → (set_of g.sets k).master
+      ≡ volume
+      → (c : ℕ) → at / 64 ≤ c → c < seg_count (at + n) → c < chunks_of (set_of g.sets k)
+      → (set_of g.sets k).memory.state c ≡ split
+  pub none : (k : ℕ) → k < length g.sets → is_enabled g.memory (set_of g.sets k) ≡ true
+      → (set_of g.sets k).master ≡ volume
+      → (c : ℕ) → at / 64 ≤ c → c < seg_count (at + n) → c < chunks_of (set_of g.sets k)
+      → (set_of g.sets k).memory.state c ≢ on_shadow
