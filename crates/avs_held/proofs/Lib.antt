@@ -1,0 +1,10 @@
+pub mod Projected
+pub mod Keeping
+pub mod Room
+pub mod Settled
+pub mod ShadowReads
+pub mod Putting
+pub mod Stagings
+pub mod Counted
+pub mod Armed
+pub mod Grouped

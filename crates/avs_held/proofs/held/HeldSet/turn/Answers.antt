@@ -1,0 +1,6 @@
+use Rattle.std.proofs.Common.{rules, ◌≡◌}
+use Rattle.avs_held.proofs.Stagings.{turns_set}
+use Rattle.avs_held.proofs.held.HeldSet.turn.Goals as goal
+
+pub returns : goal.returns
+returns g c = rw (← c.self.view_is) (turns_set c.self.inside.seat c.self.inside.chunks c.turn.new.self c.turn.ensures)

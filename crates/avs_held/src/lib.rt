@@ -1,0 +1,11 @@
+//! A shadow set of a group, with its disks: what each of its calls gives the group, whatever kind the set is of.
+#![tactic(auto)]
+
+mod arming;
+mod counting;
+mod held;
+mod reading;
+mod settling;
+mod staging;
+
+pub use held::{HeldSet, Seat};
