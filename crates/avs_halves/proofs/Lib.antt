@@ -1,0 +1,4 @@
+pub mod Finding
+pub mod Ends
+pub mod Changed
+pub mod Loaded

@@ -1,0 +1,5 @@
+pub mod SetBits
+pub mod MirrorView
+pub mod Loading
+pub mod Changing
+pub mod Writing

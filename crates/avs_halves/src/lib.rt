@@ -1,0 +1,13 @@
+//! The mirror sets of a half: their bits in memory and on the disks of their bitmaps.
+#![tactic(auto)]
+
+mod changes;
+mod disks;
+mod listing;
+mod loading;
+mod mirrors;
+mod writing;
+
+pub use loading::half_why;
+pub use mirrors::MirrorSets;
+pub use writing::write_note;
