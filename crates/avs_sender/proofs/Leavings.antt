@@ -1,0 +1,166 @@
+-- A sender leaves by one note.
+use Rattle.std.proofs.Common.{◌≡◌, ◌⊎◌, inl, inr, ℕ, true, false, List, [], cond, length, get_or, Result, Ok, Err, None, Some, ◌∙◌, sym, refl, ap, subst, arith}
+use Rattle.std.proofs.Math.Path.{fun_ext}
+use Rattle.avs_seg.specs.Image.{Image}
+use Rattle.avs_dev.specs.Devices.{NoneFell}
+use Rattle.avs_dev.specs.Below.{BelowSeen, SetsNote}
+use Rattle.avs_dev.proofs.Going.{lasts_same, spared_same}
+use Rattle.avs_refs.specs.Places.{greatest_at}
+use Rattle.avs_mqueue.specs.Queue.{Queue}
+use Rattle.avs_model.specs.declared.half.State.{State}
+use Rattle.avs_model.specs.declared.half.State.TheVariants.{Logging, Syncing, Receiving, Replicating, Queuing}
+use Rattle.avs_mirrors.specs.Half.{is_session, left_sender}
+use Rattle.avs_sync.specs.Note.{IsNote, note_at}
+use Rattle.avs_sync.specs.Session.{left}
+use Rattle.avs_sync.specs.declared.note.Note.{Note}
+use Rattle.avs_halves.specs.SetBits.{has_bit, set_at}
+use Rattle.avs_halves.specs.Writing.{PutsNote}
+use Rattle.avs_sender.specs.Held.{SenderHalf, SenderHeld, held, parts_of}
+use Rattle.avs_sender.specs.Meaning.{IsSenderInStep, due_of, places_at, waits, sender_of, found_again, found_by, found_of, stored_bytes}
+use Rattle.avs_sender.specs.Over.{IsOver}
+use Rattle.avs_sender.specs.Going.{BelowStays, SenderStays, NoneFailed}
+use Rattle.avs_sender.specs.Leaving.{Leaves}
+use Rattle.avs_sender.proofs.Meanings.{again_is, bits_due, found_is, same_images, told_note, zeros_are}
+
+-- ---- a call that does nothing
+
+pub none_fell : (faults : List ℕ) → NoneFell faults faults
+none_fell faults = record { same_length = refl; each = λ i. omega arith }
+
+pub below_same : (sound : Type 0) (below : BelowSeen) → BelowStays sound below below
+below_same sound below = record { sizes = refl; steady = refl; told = λ s vol told. told; noted = λ told. told; faults = none_fell below.faults }
+
+pub stays_same : (sound : Type 0) (h : SenderHeld) → SenderStays sound h h
+stays_same sound h = record {
+  host = refl;
+  land = refl;
+  limits = refl;
+  count = refl;
+  sets = λ set. record { vol = refl; slot = refl; segs = refl; disk = lasts_same (set_at h.half.sets set).bits.disk };
+  below = below_same sound h.below;
+}
+
+pub none_failed : (h : SenderHeld) → NoneFailed h h
+none_failed h = record { faults = refl; armed = refl; sets = λ set. spared_same (set_at h.half.sets set).bits.disk }
+
+logging_is : (s : State) → is_session s ≡ false → s ≡ Logging
+logging_is Logging off = refl
+logging_is Syncing off = cc
+logging_is Receiving off = cc
+logging_is Replicating off = cc
+logging_is Queuing off = cc
+
+no_session : (s : State) → is_session s ≡ true → s ≡ Logging → ⊥
+no_session Logging on is = absurd (cc)
+no_session Syncing on is = absurd (cc)
+no_session Receiving on is = absurd (cc)
+no_session Replicating on is = absurd (cc)
+no_session Queuing on is = absurd (cc)
+
+-- a half in logging has left
+left_already : (below : BelowSeen) (h : SenderHalf) → h.session.state ≡ Logging → sender_of (held below h) ≡ left_sender (sender_of (held below h))
+left_already below h logging = λ i. record (sender_of (held below h)) { state = logging i; due = (due ∙ sym (zeros_are h)) i }
+  where
+    due : due_of h ≡ bits_due h.sets
+    due = fun_ext (λ set. fun_ext (λ seg. ap (λ (s : State). cond (has_bit (set_at h.sets set) seg) (Some (cond (is_session s) (cond (waits h.session (places_at h set) seg) 0 (greatest_at (places_at h set).touched seg)) 0)) None) logging))
+
+pub leaves_nothing : {T E : Type 0} (sound : Type 0) (below : BelowSeen) (h : SenderHalf) (u : T) → is_session h.session.state ≡ false → Leaves {E = E} sound sound (held below h) (Ok u) (held below h)
+leaves_nothing sound below h u off = record {
+  stays = stays_same sound (held below h);
+  spared = none_failed (held below h);
+  failed = tt;
+  done = λ s. left_already below h (logging_is h.session.state off);
+  session = λ i. record h.session { state = logging_is h.session.state off i };
+  step = λ st. st;
+  stopped = λ st. tt;
+  idle = λ is. record { answer = refl; kept = refl };
+}
+
+-- ---- by a note
+
+stays_noted : {T E : Type 0} (sound : Type 0) (old new : BelowSeen) (bytes : List ℕ) (result : Result T E) → SetsNote sound old bytes result new → BelowStays sound old new
+stays_noted sound old new bytes result w = record {
+  sizes = w.sizes;
+  steady = w.steady;
+  told = λ s vol told. subst (λ (images : List Image). length (get_or images vol []) ≡ get_or new.sizes vol 0) (sym (w.images s)) (subst (λ (sizes : List ℕ). length (get_or old.images vol []) ≡ get_or sizes vol 0) (sym w.sizes) told);
+  noted = w.told;
+  faults = w.cause.later;
+}
+
+-- the half behind the note: it has left, and gave its entries up
+abbrev pub half_left : SenderHalf → ℕ → Queue → SenderHalf
+half_left h mark queue = record h { note = record h.note { state = Logging; mark = mark }; session = left h.session Logging; queue = queue }
+
+left_done : (below new : BelowSeen) (h : SenderHalf) (mark : ℕ) (q : Queue) → new.images ≡ below.images → sender_of (held new (half_left h mark q)) ≡ left_sender (sender_of (held below h))
+left_done below new h mark q images = λ i. record (left_sender (sender_of (held below h))) { images = same_images h.sets new.images below.images images i; due = sym (zeros_are h) i }
+
+pub leaves_ok : {T E : Type 0} (sound sound_new : Type 0) (below new : BelowSeen) (h : SenderHalf) (mark : ℕ) (q : Queue) (u : T) → is_session h.session.state ≡ true → q.limits ≡ h.queue.limits
+    → PutsNote {E = E} sound below (record h.note { state = Logging; mark = mark }) (Ok u) new → (sound → sound_new)
+    → Leaves {E = E} sound sound_new (held below h) (Ok u) (held new (half_left h mark q))
+leaves_ok sound sound_new below new h mark q u on limits p sounds = record {
+  stays = record {
+    host = refl;
+    land = refl;
+    limits = limits;
+    count = refl;
+    sets = λ set. record { vol = refl; slot = refl; segs = refl; disk = lasts_same (set_at h.sets set).bits.disk };
+    below = stays_noted sound below new p.bytes (Ok u) p.sets;
+  };
+  spared = record { faults = p.sets.cause.same; armed = p.sets.still_armed; sets = λ set. spared_same (set_at h.sets set).bits.disk };
+  failed = tt;
+  done = λ s. left_done below new h mark q (p.sets.images s);
+  session = refl;
+  step = λ st. record {
+    sound = sounds st.sound;
+    stored = p.sets.stored (told_note below below.note st.stored) ∙ ap Some (sym p.sets.done);
+    note = subst (λ (bytes : List ℕ). IsNote bytes (record h.note { state = Logging; mark = mark })) (sym p.sets.done) p.is;
+    volumes = λ set there. (stays_noted sound below new p.bytes (Ok u) p.sets).told st.sound (set_at h.sets set).vol (st.volumes set there);
+    bits = st.bits;
+  };
+  stopped = λ st. tt;
+  idle = λ is. absurd (no_session h.session.state on is);
+}
+
+-- where that fails, the note is the old or the new one
+over_noted : (below new : BelowSeen) (h : SenderHalf) → new.sizes ≡ below.sizes → IsOver below h → IsOver new h
+over_noted below new h sizes over = record {
+  each = λ set there. let v = over.each set there in record {
+    there = rw sizes v.there;
+    small = rw sizes v.small;
+    segs = rw sizes v.segs;
+  };
+}
+
+pub leaves_err : {T E : Type 0} (sound sound_new : Type 0) (below new : BelowSeen) (h : SenderHalf) (mark : ℕ) (e : E) → is_session h.session.state ≡ true → h.session.number ≡ h.note.session → IsOver below h
+    → PutsNote {T = T} sound below (record h.note { state = Logging; mark = mark }) (Err e) new
+    → Leaves {T = T} sound sound_new (held below h) (Err e) (held new h)
+leaves_err sound sound_new below new h mark e on number over p = record {
+  stays = record {
+    host = refl;
+    land = refl;
+    limits = refl;
+    count = refl;
+    sets = λ set. record { vol = refl; slot = refl; segs = refl; disk = lasts_same (set_at h.sets set).bits.disk };
+    below = stays_noted sound below new p.bytes (Err e) p.sets;
+  };
+  spared = tt;
+  failed = record { rose = p.sets.cause.failed; spent = p.sets.spent };
+  done = λ s. tt;
+  session = tt;
+  step = λ st. tt;
+  stopped = λ st. stopped st (p.sets.left (told_note below below.note st.stored));
+  idle = λ is. absurd (no_session h.session.state on is);
+}
+  where
+    by : IsSenderInStep sound (held below h) → (n : Note) → n.session ≡ h.note.session → n.role ≡ h.note.role → n.empty ≡ h.note.empty → note_at (stored_bytes new) ≡ n → found_again (parts_of (held new h)) ≡ found_of (sender_of (held below h))
+    by st n session role empty is = ap (λ (m : Note). found_by m (parts_of (held new h))) is ∙ found_is below new h n (session ∙ sym number) role empty (p.sets.images st.sound) st.bits (over_noted below new h p.sets.sizes over)
+
+    stopped : IsSenderInStep sound (held below h) → (new.stored ≡ below.stored) ⊎ (new.stored ≡ Some p.bytes) → found_again (parts_of (held new h)) ≡ found_of (sender_of (held below h))
+    stopped st (inl same) = by st h.note refl refl refl (again_is new below.note h.note (same ∙ st.stored) st.note)
+    stopped st (inr put) = by st (record h.note { state = Logging; mark = mark }) refl refl refl (again_is new p.bytes (record h.note { state = Logging; mark = mark }) put p.is)
+
+-- a half in step is found as having left
+pub found_left : (sound : Type 0) (below : BelowSeen) (h : SenderHalf) → h.session.number ≡ h.note.session → IsOver below h → IsSenderInStep sound (held below h) → found_again (parts_of (held below h)) ≡ found_of (sender_of (held below h))
+found_left sound below h number over st =
+    ap (λ (m : Note). found_by m (parts_of (held below h))) (again_is below below.note h.note st.stored st.note)
+    ∙ found_is below below h h.note (sym number) refl refl refl st.bits over

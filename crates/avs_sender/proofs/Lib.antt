@@ -1,0 +1,4 @@
+pub mod Meanings
+pub mod Leavings
+pub mod Loadings
+pub mod Askings

@@ -1,0 +1,126 @@
+-- A sender is found on its parts.
+use Rattle.std.proofs.Common.{◌≡◌, inl, inr, ℕ, ◌^◌, ◌<◌, ◌≤◌, false, List, length, map, get_or, ◌∙◌, sym, refl, ap, subst, arith}
+use Rattle.std.proofs.lemmas.List.{length-map, length-replicate, get_or_past}
+use Rattle.std.proofs.lemmas.List.{get_or-map as within}
+use Rattle.std.proofs.lemmas.List.Elements.{All-get_or}
+use Rattle.std.proofs.Math.ListN.{get_or-map}
+use Rattle.std.proofs.lemmas.Bool.{cases_lt}
+use Rattle.avs_seg.specs.Segment.{seg_count}
+use Rattle.avs_dev.specs.Seen.{IsTold}
+use Rattle.avs_dev.specs.Below.{IsToldAt, size_of}
+use Rattle.avs_bits.specs.BitSet.{IsInStep}
+use Rattle.avs_mqueue.specs.Queue.{Queue}
+use Rattle.avs_model.specs.declared.event.Host.{Host}
+use Rattle.avs_model.specs.declared.entry.Limits.{Limits}
+use Rattle.avs_sync.specs.Note.{IsNote}
+use Rattle.avs_sync.specs.Parts.{MirrorSet}
+use Rattle.avs_sync.specs.declared.note.Note.{Note}
+use Rattle.avs_sync.proofs.Notes.{note_at-is}
+use Rattle.avs_dev.specs.Seen.{Seen}
+use Rattle.avs_halves.specs.SetBits.{SetBits, AreInStep, set_at, part_of, no_set, no_part, disk_at}
+use Rattle.avs_halves.specs.Loading.{OpensSet}
+use Rattle.avs_sender.specs.Held.{SenderHalf, SenderParts, SetPlaces, held, parts_of}
+use Rattle.avs_sender.specs.Kept.{IsKept, ArePlacesOf}
+use Rattle.avs_sender.specs.Meaning.{no_places, part_at, sender_of, found_by, found_of}
+use Rattle.avs_sender.specs.Over.{IsOver}
+use Rattle.avs_sender.specs.Places.{no_places_for}
+use Rattle.avs_sender.specs.Loading.{IsLoadable, AreToldParts, OpensHalf, Loads, found_session}
+use Rattle.avs_sender.proofs.Meanings.{found_is, part_is, zeros_are}
+
+-- the half that is made of sets as they were found
+abbrev pub half_found : Host → Seen → Note → List SetBits → List SetPlaces → Queue → SenderHalf
+half_found host land n sets places queue = record { host = host; sets = sets; places = places; land = land; note = n; session = found_session n; queue = queue }
+
+module _ (p : SenderParts) (limits : Limits) (n : Note) (sets : List SetBits) (places : List SetPlaces) (queue : Queue) (loadable : IsLoadable p) (is : IsNote p.below.note n) (o : OpensHalf p.below p.sets limits sets places queue) where
+  h : SenderHalf
+  h = half_found p.host p.land n sets places queue
+
+  count : length sets ≡ length p.sets
+  count = sym (length-map sets part_of) ∙ ap (λ (l : List MirrorSet). length l) o.sets_are.as_found
+
+  part_found : (set : ℕ) → part_at p set ≡ part_of (set_at sets set)
+  part_found set = ap (λ (l : List MirrorSet). get_or l set no_part) (sym o.sets_are.as_found) ∙ part_is sets set
+
+  opened : (set : ℕ) → set < length sets → OpensSet p.below.sizes (part_of (set_at sets set)) (set_at sets set)
+  opened set there = All-get_or (λ s. OpensSet p.below.sizes (part_of s) s) sets set no_set there o.sets_are.each
+
+  pub over : IsOver p.below (half_found p.host p.land n sets places queue)
+  over = record {
+    each = λ set there. let own = loadable.own set (omega (arith, there, count)) in record {
+      there = subst (λ (m : MirrorSet). m.vol < length p.below.sizes) (part_found set) own.there;
+      small = subst (λ (m : MirrorSet). size_of p.below m.vol ≤ 2 ^ 31) (part_found set) own.small;
+      segs = (opened set there).segs;
+    };
+  }
+
+  in_step : AreToldParts p → AreInStep sets
+  in_step told = record { told = told_at; step = step_at }
+    where
+      told_at : (set : ℕ) → IsTold (disk_at sets set)
+      told_at set = subst (λ (m : MirrorSet). IsTold m.bits) (part_found set) (told.bits set)
+
+      step_at : (set : ℕ) → IsInStep (set_at sets set).bits
+      step_at set = elim (cases_lt set (length sets)) [
+        | inl there ↦ (opened set there).step (told_at set)
+        | inr behind ↦ subst (λ (s : SetBits). IsInStep s.bits) (sym (get_or_past sets set no_set behind)) (record { each = λ s low. absurd (none s low) })
+      ]
+        where
+          none : (s : ℕ) → s < 0 → ⊥
+          none s low = omega arith
+
+  -- a half that is found in logging is what is found of it
+  found_same : found_of (sender_of (held p.below (half_found p.host p.land n sets places queue))) ≡ sender_of (held p.below (half_found p.host p.land n sets places queue))
+  found_same = ap (λ due. record (sender_of (held p.below (half_found p.host p.land n sets places queue))) { due = due }) (zeros_are (half_found p.host p.land n sets places queue))
+
+  parts_found : parts_of (held p.below (half_found p.host p.land n sets places queue)) ≡ p
+  parts_found = ap (λ (l : List MirrorSet). record p { sets = l }) o.sets_are.as_found
+
+  pub loads : (sound : Type 0) → Loads sound p limits (held p.below (half_found p.host p.land n sets places queue))
+  loads sound = record {
+    parts_are = parts_found;
+    limits_are = o.queue_is.limits_are;
+    note = is;
+    means = λ told. sym found_same
+        ∙ sym (found_is p.below p.below (half_found p.host p.land n sets places queue) n refl refl refl refl (in_step told) over)
+        ∙ ap (found_by n) parts_found
+        ∙ ap (λ (m : Note). found_by m p) (sym (note_at-is p.below.note n is));
+    step = λ s told. record {
+      sound = s;
+      stored = told.stored;
+      note = is;
+      volumes = λ set there. subst (λ (m : MirrorSet). IsToldAt p.below m.vol) (part_found set) (told.volumes set (omega (arith, there, count)));
+      bits = in_step told;
+    };
+  }
+
+  place_found : (set : ℕ) → set < length sets → get_or places set no_places ≡ no_places_for limits.writes (seg_count (size_of p.below (set_at sets set).vol))
+  place_found set there =
+      ap (λ (l : List SetPlaces). get_or l set no_places) o.places_are
+      ∙ at (λ vol. no_places_for limits.writes (seg_count (size_of p.below vol))) (map (λ s. s.vol) sets) set 0 (omega (arith, there, length-map sets (λ s. s.vol)))
+      ∙ ap (λ (vol : ℕ). no_places_for limits.writes (seg_count (size_of p.below vol))) (get_or-map (λ s. s.vol) sets set no_set)
+    where
+      at : (f : ℕ → SetPlaces) (xs : List ℕ) (i d : ℕ) → i < length xs → get_or (map f xs) i no_places ≡ f (get_or xs i d)
+      at f xs i d low = within f xs i d no_places low
+
+  pub kept : IsKept (half_found p.host p.land n sets places queue)
+  kept = record {
+    count = ap (λ (l : List SetPlaces). length l) o.places_are ∙ length-map (map (λ s. s.vol) sets) (λ vol. no_places_for limits.writes (seg_count (size_of p.below vol))) ∙ length-map sets (λ s. s.vol);
+    places = λ set there. subst (λ (q : SetPlaces). ArePlacesOf (set_at sets set) queue.limits.writes q) (sym (place_found set there)) (record {
+      segs = length-replicate (seg_count (size_of p.below (set_at sets set).vol)) 0 ∙ sym (opened set there).segs;
+      waiting = length-replicate (seg_count (size_of p.below (set_at sets set).vol)) false ∙ sym (opened set there).segs;
+      room = ap (λ (l : Limits). l.writes) (sym o.queue_is.limits_are);
+    });
+    note = is.keeps;
+    fits = is.fits;
+    session = record {
+      number = refl;
+      reverse = refl;
+      sender = refl;
+      last = omega arith;
+      known = omega arith;
+      mark = is.keeps.mark;
+      role = λ on. absurd (cc);
+      idle = λ received. refl;
+    };
+    queue = λ on. absurd (cc);
+  }

@@ -1,0 +1,29 @@
+-- A sender leaves its session to logging.
+use Rattle.std.specs.Prelude.{◌≡◌, ℕ, nat_le, if◌then◌else◌, Result, IsOk, OnOk, OnErr}
+use Rattle.avs_model.specs.declared.half.State.TheVariants.{Logging}
+use Rattle.avs_mirrors.specs.Half.{left_sender}
+use Rattle.avs_sync.specs.Session.{left}
+use Rattle.avs_sync.specs.declared.session.Session.{Session}
+use Rattle.avs_sender.specs.Held.{SenderHeld, parts_of}
+use Rattle.avs_sender.specs.Meaning.{IsSenderInStep, sender_of, found_of, found_again}
+use Rattle.avs_sender.specs.Going.{SenderStays, NoneFailed, BelowFailed}
+
+-- nothing was done, and the answer is Ok
+pub record DidNothing {T E : Type 0} (old : SenderHeld) (result : Result T E) (new : SenderHeld) : Type 0 where
+  pub answer : IsOk result
+  pub kept : new ≡ old
+
+-- it leaves by one note, unless it is in logging. Where that fails, it is found as having left too
+pub record Leaves {T E : Type 0} (sound sound_new : Type 0) (old : SenderHeld) (result : Result T E) (new : SenderHeld) : Type 0 where
+  pub stays : SenderStays sound old new
+  pub spared : OnOk result (NoneFailed old new)
+  pub failed : OnErr result (BelowFailed old.below new.below)
+  pub done : sound → OnOk result (sender_of new ≡ left_sender (sender_of old))
+  pub session : OnOk result (new.half.session ≡ left old.half.session Logging)
+  pub step : IsSenderInStep sound old → OnOk result (IsSenderInStep sound_new new)
+  pub stopped : IsSenderInStep sound old → OnErr result (found_again (parts_of new) ≡ found_of (sender_of old))
+  pub idle : old.half.session.state ≡ Logging → DidNothing old result new
+
+-- the mark that a note says: one that is known as applied
+abbrev pub known_mark : Session → ℕ
+known_mark s = if nat_le s.mark s.known then s.mark else 0

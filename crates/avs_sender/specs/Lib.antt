@@ -1,0 +1,9 @@
+pub mod Held
+pub mod Meaning
+pub mod Kept
+pub mod Over
+pub mod Going
+pub mod Leaving
+pub mod Places
+pub mod PartsView
+pub mod Loading

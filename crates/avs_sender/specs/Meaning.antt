@@ -1,0 +1,144 @@
+-- What a sender stands for, as a half of the machine of two halves; and what is found where it is loaded.
+use Rattle.std.specs.Prelude.{◌≡◌, ℕ, ◌<◌, ◌==◌, ◌&&◌, not, nat_lt, nat_le, Bool, false, if◌then◌else◌, List, [], length, None, Some, slice_index_or}
+use Rattle.std.specs.Int.{bit_at}
+use Rattle.std.specs.Option.{option_map_or}
+use Rattle.avs_seg.specs.Segment.{seg_count}
+use Rattle.avs_dev.specs.Below.{BelowSeen, IsToldAt, image_of, size_of}
+use Rattle.avs_bits.specs.Bit.{disk_bit}
+use Rattle.avs_bits.specs.BitSet.{place}
+use Rattle.avs_refs.specs.Places.{greatest_at}
+use Rattle.avs_mirrors.specs.Entries.{Images}
+use Rattle.avs_mirrors.specs.Due.{Due}
+use Rattle.avs_mirrors.specs.Half.{HalfState, Sets, Logging, no_sets, is_session, left_sender, forgotten}
+use Rattle.avs_sync.specs.Note.{IsNote, note_at}
+use Rattle.avs_sync.specs.Parts.{MirrorSet}
+use Rattle.avs_sync.specs.declared.note.Note.{Note}
+use Rattle.avs_sync.specs.declared.session.Session.{Session}
+use Rattle.avs_halves.specs.SetBits.{AreInStep, set_at, has_bit, no_part}
+use Rattle.avs_sender.specs.Held.{SetPlaces, SenderHalf, SenderHeld, SenderParts}
+
+-- ---- in memory
+
+-- whether a segment of a set waits to be copied, which none does once the mark is placed
+abbrev pub waits : Session → SetPlaces → ℕ → Bool
+waits s m seg = s.mark == 0 && slice_index_or m.waiting seg false
+
+-- the place that frees a segment: in a session the greatest that touched it, unless it waits; in logging none
+abbrev pub freeing_place : Session → SetPlaces → ℕ → ℕ
+freeing_place s m seg = if is_session s.state then (if waits s m seg then 0 else greatest_at m.touched seg) else 0
+
+abbrev pub no_places : SetPlaces
+no_places = record { touched = record { greatest = []; outstanding = []; room = 0 }; waiting = [] }
+
+abbrev pub places_at : SenderHalf → ℕ → SetPlaces
+places_at h set = slice_index_or h.places set no_places
+
+-- what is due: the segments with bits, each with the place that frees it
+abbrev pub due_of : SenderHalf → Due
+due_of h set seg = if has_bit (set_at h.sets set) seg then Some (freeing_place h.session (places_at h set) seg) else None
+
+abbrev pub has_set : SenderHalf → Sets
+has_set h set = nat_lt set (length h.sets)
+
+-- the blocks of a set's volume
+abbrev pub images_of : SenderHeld → Images
+images_of h set = if has_set h.half set then image_of h.below (set_at h.half.sets set).vol else []
+
+-- a slot is not one of those without contents
+abbrev pub is_filled : ℕ → ℕ → Bool
+is_filled empty slot = not (bit_at empty slot == 1)
+
+abbrev pub contents_of : SenderHalf → Sets
+contents_of h set = has_set h set && is_filled h.note.empty (set_at h.sets set).slot
+
+-- the half that a sender stands for. Which places its workers have taken is known above it
+abbrev pub sender_of : SenderHeld → HalfState
+sender_of h = record {
+  on = has_set h.half;
+  here = has_set h.half;
+  contents = contents_of h.half;
+  images = images_of h;
+  number = h.half.session.number;
+  role = h.half.note.role;
+  state = h.half.session.state;
+  last = h.half.session.last;
+  known = h.half.session.known;
+  taken = 0;
+  applied = 0;
+  due = due_of h.half;
+  held = [];
+  kept = no_sets;
+}
+
+-- whether a sender gave a place
+abbrev pub is_given : Session → ℕ → Bool
+is_given s place = nat_lt 0 place && nat_le place s.last
+
+-- ---- on disks
+
+abbrev pub part_at : SenderParts → ℕ → MirrorSet
+part_at p set = slice_index_or p.sets set no_part
+
+abbrev pub has_part : SenderParts → Sets
+has_part p set = nat_lt set (length p.sets)
+
+-- whether the disk of a set's bits has one for a segment of its volume
+abbrev pub bit_found : SenderParts → ℕ → ℕ → Bool
+bit_found p set seg = has_part p set && nat_lt seg (seg_count (size_of p.below (part_at p set).vol)) && disk_bit (part_at p set).bits.image (place seg)
+
+abbrev pub due_found : SenderParts → Due
+due_found p set seg = if bit_found p set seg then Some 0 else None
+
+abbrev pub images_found : SenderParts → Images
+images_found p set = if has_part p set then image_of p.below (part_at p set).vol else []
+
+abbrev pub contents_found : SenderParts → Note → Sets
+contents_found p n set = has_part p set && is_filled n.empty (part_at p set).slot
+
+-- the half that is found on parts, where the note is this one: in logging, whatever state the note says, with nothing placed and
+-- nothing known
+abbrev pub found_by : Note → SenderParts → HalfState
+found_by n p = record {
+  on = has_part p;
+  here = has_part p;
+  contents = contents_found p n;
+  images = images_found p;
+  number = n.session;
+  role = n.role;
+  state = Logging;
+  last = 0;
+  known = 0;
+  taken = 0;
+  applied = 0;
+  due = due_found p;
+  held = [];
+  kept = no_sets;
+}
+
+-- by the note that is answered below
+abbrev pub found_on : SenderParts → HalfState
+found_on p = found_by (note_at p.below.note) p
+
+-- and where that which lies below is loaded again: by the note that lies on its disk
+abbrev pub stored_bytes : BelowSeen → List ℕ
+stored_bytes below = option_map_or (λ bytes. bytes) below.stored below.note
+
+abbrev pub found_again : SenderParts → HalfState
+found_again p = found_by (note_at (stored_bytes p.below)) p
+
+-- ---- in step
+
+-- what lies below is sound and told, and what is in memory is what the disks say: so it is where a sender was loaded from disks
+-- that are told, until a call answers that a disk failed
+pub record IsSenderInStep (is_sound : Type 0) (h : SenderHeld) : Type 0 where
+  pub sound : is_sound
+  pub stored : h.below.stored ≡ Some h.below.note
+  pub note : IsNote h.below.note h.half.note
+  pub volumes : (set : ℕ) → set < length h.half.sets → IsToldAt h.below (set_at h.half.sets set).vol
+  pub bits : AreInStep h.half.sets
+
+-- ---- what is found of a half
+
+-- a half that left and was loaded again: in logging, with nothing placed and nothing known
+abbrev pub found_of : HalfState → HalfState
+found_of x = forgotten (left_sender x)
