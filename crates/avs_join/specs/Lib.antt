@@ -1,0 +1,5 @@
+pub mod Imported
+pub mod Writing
+pub mod Formatting
+pub mod Importing
+pub mod Arming
