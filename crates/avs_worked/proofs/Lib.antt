@@ -4,6 +4,8 @@ pub mod AtOnePoint
 pub mod OutOfRoom
 pub mod SharedRoom
 pub mod GivenAway
+pub mod TwoGivenAway
 pub mod StoppedExport
+pub mod StoppedImport
 pub mod AsBefore
 pub mod SameAsBefore

@@ -39,7 +39,7 @@ refused host event = refusal terms alone chosen host event
 abbrev pub one_of : ℕ → Image
 one_of byte = replicate 1 (fill (byte ∷ []))
 
--- volumes, their shadows, the bitmaps of these, an overflow volume, the bitmap of an import, and a group
+-- volumes, their shadows, the bitmaps of these, an overflow volume, the bitmaps of imports, and a group
 abbrev pub v : Name
 v = 118 ∷ []
 
@@ -66,6 +66,9 @@ g = 103 ∷ []
 
 abbrev pub x : Name
 x = 120 ∷ []
+
+abbrev pub y : Name
+y = 121 ∷ []
 
 abbrev pub write : Name → ℕ → ℕ → Event
 write volume at byte = Write P volume at 1 (byte ∷ [])
