@@ -7,7 +7,7 @@ use Rattle.avs_dev.specs.declared.back.Why.{Why}
 use Rattle.avs_dev.specs.declared.back.Why.TheVariants as why
 use Rattle.avs_code.specs.declared.group_blocks.GroupBlock.{GroupBlock}
 use Rattle.avs_model.specs.declared.answer.Refusal.{Refusal}
-use Rattle.avs_model.specs.declared.answer.Refusal.TheVariants.{Down, BadWord, NoFile, NoVolume, NoSet, NoGroup, NoTap, Exists, NotPrimary, LinkDown, BusyVolume, Length, Range, Size, Limit, Unlike, Tap, Stale, WrongState, NoPlace, Copying, NoContents, Offline, WrongStamp, Differ, QueueFull, BadRecord, NoMemory, Fault}
+use Rattle.avs_model.specs.declared.answer.Refusal.TheVariants.{Down, BadWord, NoFile, NoVolume, NoSet, NoGroup, NoTap, Exists, NotPrimary, LinkDown, BusyVolume, Length, Range, Size, Limit, Unlike, Tap, Stale, WrongState, NoPlace, Copying, NoContents, Offline, WrongStamp, Differ, QueueFull, Early, BadRecord, NoMemory, Fault}
 use Rattle.avs_model.specs.declared.shadow.Kind.{Kind}
 use Rattle.avs_model.specs.declared.shadow.Kind.TheVariants.{Ind, Dep, Compact}
 use Rattle.avs_seg.specs.Segment.{seg_count}
@@ -185,6 +185,7 @@ small_refused g kind master shadow bitmap (Offline need slots) w = absurd w
 small_refused g kind master shadow bitmap (WrongStamp ours theirs) w = absurd w
 small_refused g kind master shadow bitmap (Differ n) w = absurd w
 small_refused g kind master shadow bitmap (QueueFull writes blocks) w = absurd w
+small_refused g kind master shadow bitmap (Early n) w = absurd w
 
 pub limit_refused : (g : IiDisks) (kind : Kind) (master : ℕ) (shadow bitmap : Seen) (refused : Refusal) → Fits (Some shadow) bitmap (blocks_at g master) → IsLimit g kind refused → EnableRefused g kind master shadow bitmap refused shadow bitmap
 limit_refused g kind master shadow bitmap (Limit n) fits w = (fits, (w, (refl, refl)))
@@ -216,6 +217,7 @@ limit_refused g kind master shadow bitmap (Offline need slots) fits w = absurd w
 limit_refused g kind master shadow bitmap (WrongStamp ours theirs) fits w = absurd w
 limit_refused g kind master shadow bitmap (Differ n) fits w = absurd w
 limit_refused g kind master shadow bitmap (QueueFull writes blocks) fits w = absurd w
+limit_refused g kind master shadow bitmap (Early n) fits w = absurd w
 
 pub make_refused : (g : IiDisks) (kind : Kind) (master : ℕ) (shadow bitmap : Seen) (y : Why) (shadow' bitmap' : Seen) → limit_at g kind ≡ None → MakeRefused shadow bitmap (blocks_at g master) y shadow' bitmap' → EnableRefused g kind master shadow bitmap (refusal_of y) shadow' bitmap'
 make_refused g kind master shadow bitmap (why.Size need have) shadow' bitmap' within w = w

@@ -1,5 +1,5 @@
 -- Events on one host: the stages of each that nothing refuses, and its answer.
-use Rattle.std.specs.Prelude.{◌≡◌, ℕ, ◌-◌, ◌&&◌, Bool, true, false, is_some, is_none, if◌then◌else◌, Option, None, Some, List, [], ◌∷◌, ◌++◌, length, map, take, drop, replicate}
+use Rattle.std.specs.Prelude.{◌≡◌, ℕ, ◌+◌, ◌-◌, ◌&&◌, Bool, true, false, is_some, is_none, if◌then◌else◌, Option, None, Some, List, [], ◌∷◌, ◌++◌, length, map, take, drop, replicate}
 use Rattle.std.specs.List.{filter_map, sum_by}
 use Rattle.std.specs.Option.{option_map, option_map_or, option_and_then}
 use Rattle.avs_seg.specs.Image.{Image, blank, range}
@@ -12,7 +12,7 @@ use Rattle.avs_model.specs.GroupStages.{Copied, Change, volume_write_stages, sha
 use Rattle.avs_model.specs.GroupStages as change
 use Rattle.avs_model.specs.GroupWork.{VolumeDisk, ShadowDisk}
 use Rattle.avs_model.specs.Room.{over_slots, used_in}
-use Rattle.avs_model.specs.Hosts.{Name, ShadowGroup, SetNames, SetPlace, HostSpot, OfVolume, OfNumber, Enabling, HostStage, Make, Put, Within, Spend, Format, Enables, Committed, MakesOverflow, Attaches, Detaches, Draw, Labels, Imports, EndsImport, MarksImport, ArmTear, GoDown, HostState, blocks_of_volume, marks_of, own_image, group_at, group_of, number_in, name_at, set_of, state_at, set_state, free_number, with_number, import_of, is_imported}
+use Rattle.avs_model.specs.Hosts.{Name, ShadowGroup, SetNames, SetPlace, HostSpot, OfVolume, OfNumber, Enabling, HostStage, Make, Put, Within, Spend, Format, Enables, Committed, MakesOverflow, Attaches, Detaches, Draw, Imports, EndsImport, MarksImport, ArmTear, GoDown, HostState, blocks_of_volume, marks_of, own_image, group_at, group_of, number_in, name_at, set_of, state_at, set_state, free_number, with_number, import_of, is_imported}
 use Rattle.avs_model.specs.HostPlaces.{Where, Own, InGroup, where_is, image_of}
 use Rattle.avs_model.specs.HostStages.{segments_of}
 use Rattle.avs_model.specs.HostFacts.{joined_group, imported_stamp}
@@ -111,11 +111,12 @@ updating_stages host way whole target =
     option_map_or (λ place. Committed place (update_changes (group_at host place).state way whole (slots_named host (sets_of_target host target))) None ∷ [])
     (place_of_target host target) []
 
--- the bitmap of an import is formatted and labelled, unless the volume was imported before since it was given away
+-- the bitmap of an import is formatted, unless the volume was imported before since it was given away; with its label, which is one block
+-- more, the volume is imported
 abbrev pub importing_stages : HostState → Name → Name → List HostStage
 importing_stages host volume bitmap =
     (if is_some (imported_stamp (marks_of host volume).away) then []
-    else Spend bitmap (import_blocks (blocks_of_volume host volume)) ∷ Labels volume bitmap ∷ [])
+    else Spend bitmap (import_blocks (blocks_of_volume host volume) + 1) ∷ [])
     ++ Imports volume bitmap ∷ []
 
 -- what comes back with a shadow volume: its blocks, and the chunks of the set that were written meanwhile

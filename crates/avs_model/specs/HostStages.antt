@@ -11,7 +11,7 @@ use Rattle.avs_model.specs.GroupStages.{GroupStage, Change, Enabled, Disabled, T
 use Rattle.avs_model.specs.GroupStages as group_stages
 use Rattle.avs_model.specs.GroupWork.{GroupSpot, Work, work}
 use Rattle.avs_model.specs.Room.{over_slots}
-use Rattle.avs_model.specs.Hosts.{Name, AwayMark, ImportBits, VolumeMarks, no_marks, VolumeState, SetNames, ShadowGroup, HostSpot, OfVolume, OfNumber, Enabling, HostStage, Make, Put, Within, Spend, Format, Enables, Committed, MakesOverflow, Attaches, Detaches, Draw, Labels, Imports, EndsImport, MarksImport, Leaves, Arrives, ArmTear, GoDown, HostState, Halted, blocks_of_volume, marks_of, own_image, with_volume_named, without_volume_named, with_image, with_marks, group_at, group_of, with_group, is_named_so, number_in, name_at, names_of_slot}
+use Rattle.avs_model.specs.Hosts.{Name, AwayMark, ImportBits, VolumeMarks, no_marks, VolumeState, SetNames, ShadowGroup, HostSpot, OfVolume, OfNumber, Enabling, HostStage, Make, Put, Within, Spend, Format, Enables, Committed, MakesOverflow, Attaches, Detaches, Draw, Imports, EndsImport, MarksImport, Leaves, Arrives, ArmTear, GoDown, HostState, Halted, blocks_of_volume, marks_of, own_image, with_volume_named, without_volume_named, with_image, with_marks, group_at, group_of, with_group, is_named_so, number_in, name_at, names_of_slot}
 use Rattle.avs_model.specs.HostPlaces.{host_spot}
 
 -- ---- what a command makes of the volumes of a host
@@ -62,7 +62,7 @@ with_master host place name =
 -- the set, of that slot, with the master of that number
 abbrev pub enabled_change : HostState → Enabling → ℕ → Change
 enabled_change host set master =
-    Enabled set.kind master (record { blocks = blocks_of_volume host set.master; own = own_slots (blocks_of_volume host set.shadow) }) set.behind
+    Enabled set.kind master (record { blocks = blocks_of_volume host set.master; own = own_slots set.kind (blocks_of_volume host set.shadow) }) set.behind
 
 abbrev pub enabling_names : ℕ → Enabling → SetNames
 enabling_names slot set = record { slot = slot; shadow = set.shadow; bitmap = set.bitmap; tag = set.tag }
@@ -169,10 +169,12 @@ with_imported away = record away { imported = true }
 abbrev pub imported_since : VolumeMarks → VolumeMarks
 imported_since marks = record marks { away = option_map with_imported marks.away }
 
+-- its bitmap has the segments of its import before, or none where it was formatted
 abbrev pub with_import : HostState → Name → Name → HostState
 with_import host volume bitmap =
     let marked = with_marks host volume imported_since in
-    record marked { imports = marked.imports ++ record { volume = volume; bitmap = bitmap } ∷ [] }
+    let kept = with_bits marked bitmap (stamp_of host volume) volume (segments_of (marks_of host bitmap)) in
+    record kept { imports = kept.imports ++ record { volume = volume; bitmap = bitmap } ∷ [] }
 
 abbrev pub without_import : HostState → Name → HostState
 without_import host volume = record host { imports = filter (λ one. not (bytes_eq volume one.volume)) host.imports }
@@ -206,7 +208,6 @@ after_host_stage host (MakesOverflow name) = with_marks host name (λ marks. rec
 after_host_stage host (Attaches place slot name) = with_group host place (attaching host slot name)
 after_host_stage host (Detaches place slot) = with_group host place (detaching slot)
 after_host_stage host Draw = record host { stamp = host.stamp + 2 }
-after_host_stage host (Labels volume bitmap) = with_bits host bitmap (stamp_of host volume) volume no_chunks
 after_host_stage host (Imports volume bitmap) = with_import host volume bitmap
 after_host_stage host (EndsImport volume) = without_import host volume
 after_host_stage host (MarksImport bitmap segments) = with_segments host bitmap (together segments (segments_of (marks_of host bitmap)))
@@ -279,7 +280,7 @@ abbrev pub number_of : HostState → Enabling → ℕ
 number_of host set = option_map_or (λ place. (group_at host place).number) (group_of host set.group) set.number
 
 -- the disks on which a stage writes, and how many blocks at most: a label and an empty block for a new group; one block for a set that is
--- enabled, and for the label by which a volume is told as the bitmap of an import
+-- enabled
 abbrev pub host_work : HostState → HostStage → List (Work HostSpot)
 host_work host (Put name at blocks) = on_volume name (length blocks)
 host_work host (Within place stage) = in_group_work host place stage
@@ -287,7 +288,6 @@ host_work host (Spend name blocks) = on_volume name blocks
 host_work host (Format number) = on_number number 2
 host_work host (Enables set) = on_number (number_of host set) 1
 host_work host (Committed place changes note) = in_group_work host place (Commit changes note)
-host_work host (Labels volume bitmap) = on_volume bitmap 1
 host_work host (MarksImport bitmap segments) = on_volume bitmap (blocks_of_volume host bitmap)
 host_work host stage = []
 

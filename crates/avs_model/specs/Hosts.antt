@@ -112,9 +112,7 @@ pub data HostStage : Type 0 where
   Detaches : ℕ → ℕ → HostStage
   -- the next stamp is drawn
   Draw : HostStage
-  -- a volume is labelled as the bitmap of the import of a volume; a volume is imported, with its bitmap; its import ends; these segments of
-  -- it are written
-  Labels : Name → Name → HostStage
+  -- a volume is imported, with its bitmap; its import ends; these segments of it are written
   Imports : Name → Name → HostStage
   EndsImport : Name → HostStage
   MarksImport : Name → ChunkList → HostStage

@@ -13,7 +13,7 @@ use Rattle.avs_model.specs.declared.answer.Word.{Word}
 use Rattle.avs_model.specs.declared.answer.Word.TheVariants as word
 use Rattle.avs_model.specs.declared.answer.Role.{Role}
 use Rattle.avs_model.specs.declared.answer.Role.TheVariants as role
-use Rattle.avs_model.specs.declared.answer.Refusal.TheVariants.{Down, BadWord, NoFile, NoVolume, NoSet, NoGroup, NoTap, Exists, NotPrimary, LinkDown, BusyVolume, Length, Range, Size, Limit, Unlike, Tap, Stale, WrongState, NoPlace, Copying, NoContents, Offline, WrongStamp, Differ, QueueFull, BadRecord, NoMemory, Fault}
+use Rattle.avs_model.specs.declared.answer.Refusal.TheVariants.{Down, BadWord, NoFile, NoVolume, NoSet, NoGroup, NoTap, Exists, NotPrimary, LinkDown, BusyVolume, Length, Range, Size, Limit, Unlike, Tap, Stale, WrongState, NoPlace, Copying, NoContents, Offline, WrongStamp, Differ, QueueFull, BadRecord, NoMemory, Fault, Early}
 use Rattle.avs_model.specs.declared.recovered.Second.{Second}
 use Rattle.avs_model.specs.declared.recovered.Second.TheVariants as second
 use Rattle.avs_model.specs.declared.recovered.GroupLine.{GroupLine}
@@ -104,6 +104,7 @@ refusal_text (QueueFull writes blocks) = codes "QueueFull " ++ decimal writes ++
 refusal_text (BadRecord field) = codes "BadRecord " ++ decimal field
 refusal_text NoMemory = codes "NoMemory"
 refusal_text Fault = codes "Fault"
+refusal_text (Early next) = codes "Early " ++ decimal next
 
 -- the blocks of a write that read as written
 abbrev pub blocks_text : List ℕ → List ℕ

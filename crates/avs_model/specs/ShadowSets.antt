@@ -65,14 +65,10 @@ is_exported Online = false
 is_exported (Offline need slots) = false
 is_exported (Exported stamp) = true
 
--- how many blocks a shadow has while it is one, which are its master's; and how many slots of 64 blocks its volume has
+-- how many blocks a shadow has while it is one, which are its master's; and of a compact set how many slots of 64 blocks its volume has
 pub record SetSize : Type 0 where
   pub blocks : ℕ
   pub own : ℕ
-
--- the slots of a shadow volume of so many blocks
-abbrev pub own_slots : ℕ → ℕ
-own_slots blocks = blocks / 64
 
 -- The chunks of a set: those that were written since it was last enabled or its shadow updated, of a dependent set; those written since
 -- either was last updated; those whose contents lie on the master alone; those whose contents lie on the shadow alone; and
@@ -118,6 +114,10 @@ abbrev pub is_compact : Kind → Bool
 is_compact Ind = false
 is_compact Dep = false
 is_compact Compact = true
+
+-- the slots of a set whose shadow volume has so many blocks
+abbrev pub own_slots : Kind → ℕ → ℕ
+own_slots kind blocks = if is_compact kind then blocks / 64 else 0
 
 -- what a new set is, by the blocks of its shadow and of its master: a dependent one is compact where its shadow is the smaller
 abbrev pub kind_of : Bool → ℕ → ℕ → Kind

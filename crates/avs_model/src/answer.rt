@@ -117,6 +117,8 @@ pub enum Refusal {
     NoMemory,
     /// A disk failed. A layer does not know its host; an answer says `Faulted` with the host.
     Fault,
+    /// The place is above the next one to be applied, which is this. No answer of a run holds it.
+    Early { next: u64 },
 }
 
 /// What an event answers.
@@ -233,6 +235,7 @@ impl fmt::Display for Refusal {
             Refusal::BadRecord(field) => write!(f, "BadRecord {field}"),
             Refusal::NoMemory => f.write_str("NoMemory"),
             Refusal::Fault => f.write_str("Fault"),
+            Refusal::Early { next } => write!(f, "Early {next}"),
         }
     }
 }

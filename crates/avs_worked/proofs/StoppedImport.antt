@@ -1,8 +1,7 @@
--- A fault in the midst of an import, worked over the definitions: the bitmap volume is formatted, and may be labelled, and the volume is not
--- imported.
+-- A fault in the midst of an import, worked over the definitions: the bitmap volume is formatted, and the volume is not imported.
 use Rattle.std.proofs.Common.{arith, ◌≡◌, true, None, Some, [], ◌∷◌, refl, inl}
 use Rattle.avs_seg.specs.Staged.{run}
-use Rattle.avs_model.specs.Hosts.{HostState, Spend, Labels, Imports, OfVolume}
+use Rattle.avs_model.specs.Hosts.{HostState, Spend, Imports, OfVolume}
 use Rattle.avs_model.specs.HostFacts.{kept_stamp}
 use Rattle.avs_model.specs.HostStages.{in_host}
 use Rattle.avs_model.specs.HostEvents.{stages}
@@ -28,8 +27,8 @@ armed = done (moved given s P S).s (Arm S (target.Volume x) 0 0 0 ∷ [])
 pub may_import : refused armed import ≡ None
 may_import = refl
 
--- it writes on that disk alone: the label and the block of bits, and the label once more
-pub its_stages : stages terms chosen armed import ≡ Spend x 2 ∷ Labels s x ∷ Imports s x ∷ []
+-- it writes on that disk alone: nothing in the label's place, the block of bits, the label
+pub its_stages : stages terms chosen armed import ≡ Spend x 3 ∷ Imports s x ∷ []
 its_stages = refl
 
 pub three_blocks : writes_on terms chosen armed import (OfVolume x) ≡ 3
@@ -42,9 +41,9 @@ stopped = record (moved given s P S).s { run = stopped_by terms chosen armed imp
 pub stops : Stops terms chosen armed import stopped
 stops = record { left = (moved given s P S).s; tear = inl (record { disk = OfVolume x; writes = omega arith; armed = refl }, refl); begun = true; begins = inl (refl, refl); down = refl }
 
--- its bitmap may be formatted, and no more: its contents are gone, and it may serve again
+-- its bitmap may be formatted, and no more: its contents are gone, and the volume may be imported with it
 abbrev pub formatted : HostState
-formatted = run in_host stopped (Spend x 2 ∷ [])
+formatted = run in_host stopped (Spend x 3 ∷ [])
 
 pub one_done : StoppedAt in_host stopped (stopped_stages stopped) 1 formatted
 one_done = inl refl
@@ -61,31 +60,18 @@ no_stamp = refl
 pub not_imported : refused (brought_up formatted) (Read S s 0 1) ≡ Some (WrongState Away)
 not_imported = refl
 
--- or it may be labelled too: the volume is not imported, and may be with this bitmap
-abbrev pub labelled : HostState
-labelled = run in_host formatted (Labels s x ∷ [])
-
-pub two_done : StoppedAt in_host stopped (stopped_stages stopped) 2 labelled
-two_done = inl refl
-
-pub told_kept_too : second_line stopped 2 (brought_up labelled) ≡ second.Kept
-told_kept_too = refl
-
-pub its_stamp : kept_stamp (brought_up labelled) x ≡ Some 1
-its_stamp = refl
-
-pub still_away : refused (brought_up labelled) (Read S s 0 1) ≡ Some (WrongState Away)
-still_away = refl
-
-pub may_again : refused (brought_up labelled) import ≡ None
+pub may_again : refused (brought_up formatted) import ≡ None
 may_again = refl
 
-pub again_whole : stages terms chosen (brought_up labelled) import ≡ Spend x 2 ∷ Labels s x ∷ Imports s x ∷ []
+pub again_whole : stages terms chosen (brought_up formatted) import ≡ Spend x 3 ∷ Imports s x ∷ []
 again_whole = refl
 
 -- or all of it stands
-pub all_done : StoppedAt in_host stopped (stopped_stages stopped) 3 (run in_host stopped (stopped_stages stopped))
+pub all_done : StoppedAt in_host stopped (stopped_stages stopped) 2 (run in_host stopped (stopped_stages stopped))
 all_done = refl
 
-pub told_done : second_line stopped 3 (brought_up (run in_host stopped (stopped_stages stopped))) ≡ second.Done
+pub told_done : second_line stopped 2 (brought_up (run in_host stopped (stopped_stages stopped))) ≡ second.Done
 told_done = refl
+
+pub its_stamp : kept_stamp (brought_up (run in_host stopped (stopped_stages stopped))) x ≡ Some 1
+its_stamp = refl

@@ -1,9 +1,9 @@
-use Rattle.std.proofs.Common.{◌≡◌, ◌<◌, ◌++◌, ℕ, List, drop, take, sym, ◌∙◌, ap, subst, arith}
+use Rattle.std.proofs.Common.{◌<◌, ◌++◌, ℕ, List, drop, take, sym, ◌∙◌, ap, subst, arith}
 use Rattle.std.proofs.lemmas.Bool.{both_ways}
 use Rattle.std.proofs.lemmas.List.{take_rest}
 use Rattle.std.proofs.lemmas.Slice.Eq.{bytes_eq-Decides}
 use Rattle.avs_model.specs.HeldRuns.{blocks_held, HoldsRuns}
-use Rattle.avs_model.proofs.HeldRuns.{no_runs, first_held, first_blocks, grows, grown_blocks, begins, begun_blocks}
+use Rattle.avs_model.proofs.HeldRuns.{no_runs, first_held, first_blocks, grown_blocks, begins, begun_blocks}
 use Rattle.avs_model.proofs.equal_runs.EqualRuns.push_run.Goals as goal
 
 pub invariant_of-self-then-self-eq0 : goal.invariant_of-self-then-self-eq0
