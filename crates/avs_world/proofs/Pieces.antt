@@ -10,6 +10,7 @@ use Rattle.avs_seg.proofs.Bytes.{length-blocks_of, blocks_of-append}
 use Rattle.avs_seg.proofs.Ranges.{length-range, range-append}
 use Rattle.avs_model.specs.State.{image_of}
 use Rattle.avs_world.specs.declared.ranges.Target.{Target}
+use Rattle.avs_world.specs.declared.ranges.TheConstants.{PIECE}
 use Rattle.avs_world.specs.Views.{StoreView}
 use Rattle.avs_world.specs.Ranges.{IsReached}
 use Rattle.avs_world.specs.Causes.{DiskRose, DisksLast}
@@ -27,10 +28,10 @@ reached_part store target at len done more reached within some = record {
 }
 
 -- a piece lies in the buffer
-pub part_fits : (piece : List ℕ) (len done more : ℕ) → length piece ≡ 512 * min len 64 → done + more ≤ len → more ≡ min 64 (len - done) → more * 512 ≤ length piece
+pub part_fits : (piece : List ℕ) (len done more : ℕ) → length piece ≡ 512 * min len PIECE → done + more ≤ len → more ≡ min PIECE (len - done) → more * 512 ≤ length piece
 part_fits piece len done more size within is = omega (arith, size, within, is)
 
-pub part_size : (piece : List ℕ) (len done more : ℕ) → length piece ≡ 512 * min len 64 → done + more ≤ len → more ≡ min 64 (len - done) → length (take (more * 512) piece) ≡ 512 * more
+pub part_size : (piece : List ℕ) (len done more : ℕ) → length piece ≡ 512 * min len PIECE → done + more ≤ len → more ≡ min PIECE (len - done) → length (take (more * 512) piece) ≡ 512 * more
 part_size piece len done more size within is =
     let same : more * 512 ≡ 512 * more = omega arith in
     length-take-le (more * 512) piece (part_fits piece len done more size within is) ∙ same

@@ -4,6 +4,7 @@ ghost use Rattle.avs_seg.specs.Image.{blocks_of};
 ghost use Rattle.avs_model.specs.Filling.{fill};
 ghost use Rattle.avs_world.specs.Views.{group_view};
 ghost use Rattle.avs_world.specs.Calls.{IsMasterRange, IsShadowRangeOf, ReadsMaster, WritesMaster, ReadsShadow, WritesShadow};
+ghost use Rattle.avs_world.specs.declared.ranges.TheConstants.{PIECE};
 ghost use Rattle.avs_world.specs.declared.world.WorldFault.TheVariants.{NoMemory};
 
 use crate::group::{Group, MASTER, Part};
@@ -21,7 +22,7 @@ pub(crate) const LONGEST_WRITE: u32 = 256;
 const LONGEST_READ: u32 = 4096;
 
 // So many blocks are read at a time. They stay in the processor's cache until they are compared.
-const PIECE: u32 = 64;
+const PIECE: u32 = 32;
 
 // Why a range was not read.
 #[derive(Clone, Copy, Debug, PartialEq, Eq)]
@@ -147,7 +148,7 @@ impl<D: Arm> World<D> {
     ) -> Result<(), ReadStop>
         requires reached { IsReached (view_of D.seen self.old) target at (512 * len) }
         requires room { at + len < 2 ^ 32 }
-        requires piece { length piece.old ≡ 512 * min len 64 }
+        requires piece { length piece.old ≡ 512 * min len PIECE }
         requires none { runs.old ≡ [] }
         ensures reads { result ≢ Err ReadStop.NoMemory → ReadsRuns (view_of D.seen self.old) target at len runs.new result (view_of D.seen self.new) }
         ensures up { self.new.up ≡ self.old.up }
