@@ -49,6 +49,7 @@ module _ (old : Seen) where
       | inr there ↦ inr (subst IsLabelBlock (sym (ap (λ (img : Image). block_at img 0) there ∙ put_one old.image 0 w.block 0 refl (omega (arith, told)))) w.is)
     ];
     header = λ told. inl ((block_only IsLabelBlock 0 old new (omega arith) (Err e) w told).outside 1 (inr (omega arith)));
+    label_first = λ told. inr ((block_only IsLabelBlock 0 old new (omega arith) (Err e) w told).outside 1 (inr (omega arith)));
     written = tt;
     unwritten = inl w.writes.uncounted;
   }
@@ -84,6 +85,7 @@ module _ (old : Seen) where
       };
       label = λ told. tt;
       header = λ told. tt;
+      label_first = λ told. tt;
       written = omega (arith, block_counted IsLabelBlock 0 old mid (omega arith) x first, block_counted IsHeaderBlock 1 mid new (omega (arith, sizes)) y w);
       unwritten = tt;
     }
@@ -96,6 +98,7 @@ module _ (old : Seen) where
         | inl same ↦ inl (ap (λ (img : Image). block_at img 1) same ∙ old_header told)
         | inr there ↦ inr (header_there (first.writes.told told) w.block there w.is)
       ];
+      label_first = λ told. inl (label_left (Err e) w told);
       written = tt;
       unwritten = inr (w.writes.uncounted ∙ block_counted IsLabelBlock 0 old mid (omega arith) x first);
     }

@@ -11,7 +11,7 @@ use Rattle.avs_code.specs.Label.{IsLabel}
 use Rattle.avs_code.specs.declared.land_headers.LandHeader.{LandHeader}
 use Rattle.avs_model.specs.declared.entry.Entry.{Entry}
 use Rattle.avs_land.specs.Landed.{landing_blocks, landing_label, area_of, header_for, no_header, landed_of, IsLanding, IsReadable, HasLanded, IsBadLanding}
-use Rattle.avs_land.specs.Steps.{WroteOr}
+use Rattle.avs_land.specs.Steps.{WroteOr, IsLabelFirst}
 
 -- its disk, and the header that is kept in memory
 pub record Landing : Type 0 where
@@ -83,6 +83,7 @@ pub record IsLandingMadeInPart (old new : Seen) : Type 0 where
   pub within : IsTold old → ChangesWithin 0 2 old.image new.image
   pub label : IsTold old → (block_at new.image 0 ≡ block_at old.image 0) ⊎ IsLabel (block_at new.image 0) landing_label
   pub header : IsTold old → (block_at new.image 1 ≡ block_at old.image 1) ⊎ IsLandHeader (block_at new.image 1) no_header
+  pub label_first : IsTold old → IsLabelFirst old.image new.image
   pub written : WroteOr old.written 1 new.written
 
 -- why no landing volume was made, and what stands then

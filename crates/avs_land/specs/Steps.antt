@@ -22,6 +22,10 @@ pub record WritesBlock {T E : Type 0} (Is : Block → Type 0) (at : ℕ) (old : 
 abbrev pub WroteOr : ℕ → ℕ → ℕ → Type 0
 WroteOr old more new = (new ≡ old) ⊎ (new ≡ counted old more)
 
+-- the label is written before the header: it stands, or the header is as it was
+abbrev pub IsLabelFirst : Image → Image → Type 0
+IsLabelFirst old new = IsLabel (block_at new 0) landing_label ⊎ (block_at new 1 ≡ block_at old 1)
+
 -- the label and the header of a new landing volume are written
 pub record Formats {T E : Type 0} (old : Seen) (result : Result T E) (new : Seen) : Type 0 where
   pub goes : GoesOn old result new
@@ -29,6 +33,7 @@ pub record Formats {T E : Type 0} (old : Seen) (result : Result T E) (new : Seen
   pub done : IsTold old → OnOk result (IsLanding new.image no_header)
   pub label : IsTold old → OnErr result ((block_at new.image 0 ≡ block_at old.image 0) ⊎ IsLabel (block_at new.image 0) landing_label)
   pub header : IsTold old → OnErr result ((block_at new.image 1 ≡ block_at old.image 1) ⊎ IsLandHeader (block_at new.image 1) no_header)
+  pub label_first : IsTold old → OnErr result (IsLabelFirst old.image new.image)
   pub written : OnOk result (new.written ≡ counted old.written 2)
   pub unwritten : OnErr result (WroteOr old.written 1 new.written)
 

@@ -81,10 +81,18 @@ pub record Loads (old : Seen) (taken : Taken) (new : OverSet) : Type 0 where
 
 -- The first of these rules is broken: the disk has a block, in it is the label of an overflow volume, and the list names
 -- slots that are there, each once.
+pub record IsBadLabelled (old : Seen) (field : ℕ) : Type 0 where
+  pub some : 0 < old.size
+  pub bad : IsTold old → IsBadLabel (block_at old.image 0) over_use field
+
+pub record IsBadTaken (old : Seen) (taken : Taken) (field : ℕ) : Type 0 where
+  pub some : 0 < old.size
+  pub label : IsTold old → HasLabel old
+  pub bad : HasBadSlot taken (slots_of old.size)
+  pub between : field ≡ 64
+
 abbrev pub IsBadVolume : Seen → Taken → ℕ → Type 0
-IsBadVolume old taken field = (old.size ≡ 0 × field ≡ 64)
-    ⊎ ((IsTold old → IsBadLabel (block_at old.image 0) over_use field)
-    ⊎ ((IsTold old → HasLabel old) × (HasBadSlot taken (slots_of old.size) × (field ≡ 64))))
+IsBadVolume old taken field = (old.size ≡ 0 × field ≡ 64) ⊎ (IsBadLabelled old field ⊎ IsBadTaken old taken field)
 
 -- why none was found, and what the disk is then: all but the count of faults is as before
 abbrev pub LoadRefused : Seen → Taken → Why → Seen → Type 0

@@ -1,5 +1,5 @@
 // What an overflow volume gives out, keeps, and finds again.
-use avs_dev::{Disk, MemDisk, Tear, Why};
+use avs_dev::{Arm, Disk, MemDisk, Tear, Why};
 use avs_over::Over;
 use avs_seg::BLOCK;
 use std::alloc::Global;
@@ -249,51 +249,149 @@ fn next(seed: &mut u64) -> u32 {
     (*seed >> 33) as u32
 }
 
-// The same by a plain table: 0 stands for a free slot.
-fn plain_take(owners: &mut [u32; 8], set: u32) -> Option<u32> {
-    for slot in 0..8 {
-        if owners[slot] == 0 {
-            owners[slot] = set;
-            return Some(slot as u32);
+// How many slots the volume of random calls has.
+const SLOTS: u32 = 8;
+
+// A volume by a plain table and a whole image: 0 stands for a free slot, and each block has one byte throughout.
+#[derive(Clone, Copy)]
+struct Plain {
+    owners: [u32; 8],
+    image: [u8; 512],
+}
+
+impl Plain {
+    fn take(&mut self, set: u32) -> Option<u32> {
+        for slot in 0..8 {
+            if self.owners[slot] == 0 {
+                self.owners[slot] = set;
+                return Some(slot as u32);
+            }
+        }
+        None
+    }
+
+    fn release(&mut self, set: u32) {
+        for slot in 0..8 {
+            if self.owners[slot] == set {
+                self.owners[slot] = 0;
+            }
         }
     }
-    None
-}
 
-fn plain_release(owners: &mut [u32; 8], set: u32) {
-    for slot in 0..8 {
-        if owners[slot] == set {
-            owners[slot] = 0;
+    fn used(&self) -> u32 {
+        self.owners.iter().filter(|owner| **owner != 0).count() as u32
+    }
+
+    // The byte in a block of a slot.
+    fn byte(&self, slot: u32, at: u32) -> u8 {
+        self.image[(64 * (slot % 8) + at % 64) as usize]
+    }
+
+    // Blocks of a slot are written.
+    fn put(&mut self, slot: u32, at: u32, count: u32, byte: u8) {
+        for place in 0..64 {
+            if at <= place && place - at < count {
+                self.image[(64 * (slot % 8) + place) as usize] = byte;
+            }
         }
     }
 }
 
-fn plain_used(owners: &[u32; 8]) -> u32 {
-    owners.iter().filter(|owner| **owner != 0).count() as u32
-}
-
-fn random_step(rt: &impl Abort, over: &mut Over<MemDisk>, owners: &mut [u32; 8], number: u32) {
-    let set = number / 8 % 4 + 1;
-    if number % 8 == 0 {
-        over.release_set(set);
-        plain_release(owners, set);
+// Blocks are written: where that fails each of them is old or new.
+fn random_write(rt: &impl Abort, over: &mut Over<MemDisk>, plain: &mut Plain, number: u32) -> bool {
+    let (slot, at) = (number % SLOTS, number / 8 % 61);
+    let (count, value) = (number / 512 % 4 + 1, (number / 2_048 % 256) as u8);
+    let is_done = write(rt, over, slot, at, count as usize, value);
+    if is_done {
+        plain.put(slot, at, count, value);
     } else {
-        same(rt, over.take(set), plain_take(owners, set));
+        for place in at..at + count {
+            let found = byte(rt, over, slot, place);
+            assert!(rt; found == plain.byte(slot, place) || found == value);
+            plain.put(slot, place, 1, found);
+        }
     }
-    same(rt, over.used(), plain_used(owners));
+    is_done
 }
 
-fn random_steps(rt: &impl Abort, alloc: Global, mut seed: u64) {
-    let mut over = make(rt, alloc, disk(rt, alloc, 514));
-    let mut owners = [0; 8];
-    for _ in 0..2_000 {
-        random_step(rt, &mut over, &mut owners, next(&mut seed));
+fn random_step(rt: &impl Abort, over: &mut Over<MemDisk>, plain: &mut Plain, number: u32) -> bool {
+    let set = number / 8 % 4 + 1;
+    match number % 8 {
+        0 => {
+            over.release_set(set);
+            plain.release(set);
+        }
+        1..=3 => same(rt, over.take(set), plain.take(set)),
+        4 => {
+            let tear = Tear {
+                skip: number / 8 % 3,
+                from: number / 32 % 3,
+                count: number / 128 % 4,
+            };
+            same(rt, over.arm(0, tear), true);
+        }
+        _ => return random_write(rt, over, plain, number / 8),
     }
+    same(rt, over.used(), plain.used());
+    true
+}
+
+// The slots that are given, as pairs of the set and the slot.
+fn pairs_of(rt: &impl Abort, alloc: Global, plain: &Plain) -> Vec<(u32, u32)> {
+    let mut pairs = Vec::new(alloc);
+    for slot in 0..8 {
+        if plain.owners[slot] != 0 {
+            pairs
+                .push((plain.owners[slot], slot as u32))
+                .expect(rt, "memory");
+        }
+    }
+    pairs
+}
+
+// The whole image.
+fn shows(rt: &impl Abort, over: &mut Over<MemDisk>, plain: &Plain) {
+    for place in 0..512 {
+        let found = byte(rt, over, place / 64, place % 64);
+        assert!(rt; found == plain.byte(place / 64, place % 64));
+    }
+}
+
+fn found_again(
+    rt: &impl Abort,
+    alloc: Global,
+    over: Over<MemDisk>,
+    plain: &Plain,
+) -> Over<MemDisk> {
+    match Over::load(alloc, over.into_disk(), &pairs_of(rt, alloc, plain)) {
+        Ok(over) => over,
+        Err(_) => panic!(rt; "found"),
+    }
+}
+
+// After each write that stops, the volume is found again. Gives how many did.
+fn random_steps(rt: &impl Abort, alloc: Global, mut seed: u64) -> u32 {
+    let mut over = make(rt, alloc, disk(rt, alloc, 514));
+    let mut plain = Plain {
+        owners: [0; 8],
+        image: [0; 512],
+    };
+    let mut stops: u32 = 0;
+    for _ in 0..2_000 {
+        if !random_step(rt, &mut over, &mut plain, next(&mut seed)) {
+            over = found_again(rt, alloc, over, &plain);
+            shows(rt, &mut over, &plain);
+            stops = stops.saturating_add(1);
+        }
+    }
+    shows(rt, &mut over, &plain);
+    stops
 }
 
 #[test]
-fn random_calls_agree_with_a_plain_table(rt: HostRuntime) {
+fn random_calls_agree_with_a_plain_reading(rt: HostRuntime) {
     for seed in [1, 2, 3] {
-        random_steps(&rt, rt.alloc(), seed);
+        let stops = random_steps(&rt, rt.alloc(), seed);
+        assert!(&rt; stops > 50);
     }
 }

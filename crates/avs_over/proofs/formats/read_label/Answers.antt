@@ -23,7 +23,10 @@ pub returns-in-Err-clause-refused : goal.returns-in-Err-clause-refused
 returns-in-Err-clause-refused g c taken =
     let image = (g.D.Disk.seen c.args.disk.now).image in (
       same (g.D.Disk.seen c.args.disk.now) (g.D.Disk.seen c.read.new.self) c.read.result c.in_ok-read.field-0 c.in_ok-read.was c.read.ensures.rest c.read.ensures.goes,
-      inr (inl (λ told.
-          let shown = subst (λ (r : Result (Unit {0}) Failed). OnOk r (blocks_of c.read.new.out ≡ range image 0 (length c.read.new.out / 512))) c.in_ok-read.was (c.read.ensures.shows told) in
-          subst (λ (b : List ℕ). IsBadLabel b over_use c.in-Err.field-0.0) (sym (first_read image c.read.new.out (omega (arith, c.read.auto.out)) shown)) c.in-Err.ensures.bad)),
+      inr (inl (record {
+        some = c.requires;
+        bad = λ told.
+            let shown = subst (λ (r : Result (Unit {0}) Failed). OnOk r (blocks_of c.read.new.out ≡ range image 0 (length c.read.new.out / 512))) c.in_ok-read.was (c.read.ensures.shows told) in
+            subst (λ (b : List ℕ). IsBadLabel b over_use c.in-Err.field-0.0) (sym (first_read image c.read.new.out (omega (arith, c.read.auto.out)) shown)) c.in-Err.ensures.bad;
+      })),
     )
