@@ -5,7 +5,7 @@ use Rattle.std.proofs.lemmas.Result.{on_ok_weaker, on_err_weaker}
 use Rattle.avs_seg.specs.declared.fault.Failed.{Failed}
 use Rattle.avs_seg.specs.Image.{Image, block_at}
 use Rattle.avs_seg.specs.Segment.{seg_len}
-use Rattle.avs_seg.proofs.Exits.{ok_exit}
+use Rattle.avs_seg.proofs.Exits.{ok_exit, err_exit}
 use Rattle.avs_dev.specs.Seen.{Seen}
 use Rattle.avs_dev.specs.Devices.{AllGoOn}
 use Rattle.avs_dev.proofs.Going.{all_then}
@@ -14,7 +14,7 @@ use Rattle.avs_chunks.specs.States.{state_on}
 use Rattle.avs_chunks.specs.ChunkSet.{ChunkSet, disk_of, state_of, next_of, staged_state, disk_state, chunks_of, IsKnown, CanSave}
 use Rattle.avs_chunks.specs.Disks.{ChunkDisk, Master, Shadow, Bitmap, three, disk_at, raised, Adds, copy_work}
 use Rattle.avs_chunks.specs.Calls.{KeepsBlocks, CopiesAhead}
-use Rattle.avs_chunks.specs.Staging.{is_ahead, told_work, ahead_work, CopiesTold, told_by, part_end, stage_work, part_work, StagesParts, StagesPart, split_to, AreSetTo}
+use Rattle.avs_chunks.specs.Staging.{is_ahead, told_work, ahead_work, CopiesTold, told_by, part_end, stage_work, part_work, StagesParts, AreAhead, StagesPart, split_to, AreSetTo}
 use Rattle.avs_chunks.proofs.Going.{bitmap_goes, raised-none}
 use Rattle.avs_chunks.proofs.Sums.{sum_none, sum_more, sum_one, sum_less}
 use Rattle.avs_chunks.proofs.Chained.{keeps_nothing, keeps_then, adds_then, adds_as, adds_wider}
@@ -188,7 +188,7 @@ module _ (s mid new : ChunkSet) (m m' : Seen) (part : ℕ) (bits : List ℕ) whe
         master = cp.master;
       };
       seen = λ kn td. keeps_by s mid new m.image m'.image (p.kept ((cp.keeps.goes.lasts Bitmap).told kn.bitmap)).live shadow (ap (λ (x : ChunkSet). x.blocks) p.is) (cp.keeps.blocks kn td);
-      copied = λ t t'. ok_exit r (λ i lt low high ahead. ap (λ (x : Option Seen). block_at (disk_of x).image i) shadow ∙ cp.copied t t' i lt low (omega (arith, high, lt)) ahead);
+      copied = λ t t'. (let all : AreAhead s m.image part bits new = record { each = λ i lt low high ahead. ap (λ (x : Option Seen). block_at (disk_of x).image i) shadow ∙ cp.copied t t' i lt low (omega (arith, high, lt)) ahead } in record { done = ok_exit r all; stopped = err_exit r (inr all) });
       staged = λ told. on_ok_weaker r (set_as staged_state staged_state (staged_state new) (ap (λ (x : ChunkSet). staged_state x) cp.is)) (p.staged ((cp.keeps.goes.lasts Bitmap).told told));
       held = on_ok_weaker r (set_as next_of next_of (next_of new) (ap (λ (x : ChunkSet). next_of x) cp.is)) p.held;
       adds = adds_then (disk_at s m) (disk_at mid m') (disk_at new m') (ahead_work (told_by bits part) s (2048 * part) (part_end (chunks_of s) part - 2048 * part)) stage_work tt r cp.adds (staged_adds r (split_to (chunks_of mid) bits (2048 * part) (state_of mid)) p);
@@ -209,7 +209,7 @@ stops_part s mid m m' part bits e q err p =
         master = cp.master;
       };
       seen = cp.keeps.blocks;
-      copied = λ t t'. tt;
+      copied = λ t t'. record { done = tt; stopped = inl (ap (λ (x : ChunkSet). x.areas) cp.is) };
       staged = λ told. tt;
       held = tt;
       adds = adds_wider (disk_at s m) (disk_at mid m') (ahead_work (told_by bits part) s (2048 * part) (part_end (chunks_of s) part - 2048 * part)) (part_work s part bits) e (λ d. omega arith) cp.adds;

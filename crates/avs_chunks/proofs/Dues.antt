@@ -1,5 +1,5 @@
 -- Chunks that are to be copied, and those that are known to need no copy.
-use Rattle.std.proofs.Common.{◌≡◌, ◌⊎◌, inl, inr, ℕ, ◌<◌, Bool, true, false, not, IsTrue, List, Option, None, Some, is_some, Result, Ok, Err, refl, sym, ◌∙◌, ap, subst, arith}
+use Rattle.std.proofs.Common.{◌≡◌, ◌≢◌, ◌⊎◌, inl, inr, ℕ, ◌<◌, Bool, true, false, eqb, List, Option, None, Some, Result, Ok, Err, refl, sym, ◌∙◌, ap, subst, arith}
 use Rattle.std.specs.Option.{unwrap_or}
 use Rattle.std.proofs.lemmas.Bool.{cases_eq, false≢true}
 use Rattle.avs_dev.specs.Seen.{Seen}
@@ -9,12 +9,16 @@ use Rattle.avs_model.specs.declared.shadow.Kind.{Kind}
 use Rattle.avs_model.specs.declared.shadow.Kind.TheVariants.{Ind, Dep, Compact}
 use Rattle.avs_chunks.specs.States.{on_both, split, state_in}
 use Rattle.avs_chunks.specs.Due.{is_independent, is_due, NoneDue}
+use Rattle.avs_chunks.specs.declared.counting.Counts.{Counts}
+use Rattle.avs_chunks.specs.Counted.{AreCounted}
 use Rattle.avs_chunks.specs.ChunkSet.{ChunkSet, chunks_of, state_of, IsSettled}
 use Rattle.avs_chunks.specs.Disks.{disk_at}
 use Rattle.avs_chunks.specs.Copying.{FindsDue, CopiesOne}
 use Rattle.avs_chunks.specs.Calls.{Settles}
 use Rattle.avs_chunks.specs.Steps.{SetsState, PutsState}
 use Rattle.avs_chunks.proofs.Quarters.{quarter_small}
+use Rattle.avs_chunks.proofs.Counts.{count_none}
+use Rattle.avs_chunks.proofs.Counted.{none_in}
 
 -- ---- a state that needs no copy
 
@@ -24,17 +28,15 @@ not_due false state (inl is) = ap (λ (n : ℕ). is_due false n) is
 not_due true state (inr is) = ap (λ (n : ℕ). is_due true n) is
 not_due false state (inr is) = ap (λ (n : ℕ). is_due false n) is
 
-which : (state : ℕ) → state < 4 → is_due true state ≡ false → (state ≡ on_both) ⊎ (state ≡ split)
-which state small idle = elim (cases_eq state 3) [
-  | inl three ↦ absurd (false≢true (sym idle ∙ ap (λ (n : ℕ). is_due true n) three))
-  | inr a ↦ elim (cases_eq state 0) [
-    | inl zero ↦ absurd (false≢true (sym idle ∙ ap (λ (n : ℕ). is_due true n) zero))
-    | inr b ↦ elim (cases_eq state 1) [
-      | inl one ↦ inl one
-      | inr c ↦ inr (omega (arith, small, a, b, c))
-    ]
-  ]
+which : (state : ℕ) → state < 4 → state ≢ 0 → state ≢ 3 → (state ≡ on_both) ⊎ (state ≡ split)
+which state small a b = elim (cases_eq state 1) [
+  | inl one ↦ inl one
+  | inr c ↦ inr (omega (arith, small, a, b, c))
 ]
+
+apart : (state : ℕ) → (state ≡ on_both) ⊎ (state ≡ split) → (eqb state 0 ≡ false) × (eqb state 3 ≡ false)
+apart state (inl is) = (ap (λ (n : ℕ). eqb n 0) is, ap (λ (n : ℕ). eqb n 3) is)
+apart state (inr is) = (ap (λ (n : ℕ). eqb n 0) is, ap (λ (n : ℕ). eqb n 3) is)
 
 state_small : (bytes : List ℕ) (c : ℕ) → state_in bytes c < 4
 unfolding state_in
@@ -65,12 +67,20 @@ kind_is Ind is = refl
 kind_is Dep is = absurd (false≢true is)
 kind_is Compact is = absurd (false≢true is)
 
-pub settled_yes : (s : ChunkSet) (due : Option ℕ) (none : Bool) → is_independent s.kind ≡ true → is_some due ≡ not none → IsTrue none → FindsDue (state_of s) (is_independent s.kind) (chunks_of s) due → IsSettled s
-settled_yes s (Some due) none independent test said finds = absurd (false≢true (sym (test ∙ ap not said)))
-settled_yes s None none independent test said finds = record {
+pub settled_yes : (s : ChunkSet) (counts : Counts) → is_independent s.kind ≡ true → AreCounted (state_of s) (chunks_of s) counts → counts.alone ≡ 0 → counts.back ≡ 0 → IsSettled s
+settled_yes s counts independent p alone back = record {
   kind = kind_is s.kind independent;
-  settled = λ c lt. which (state_of s c) (state_small s.memory c) (ap (λ (b : Bool). is_due b (state_of s c)) (sym independent) ∙ finds.none c lt);
+  settled = λ c lt. which (state_of s c) (state_small s.memory c) (none_in (state_of s) (chunks_of s) c 0 lt (sym alone ∙ p.alone)) (none_in (state_of s) (chunks_of s) c 3 lt (sym back ∙ p.back));
 }
+
+pub settled_no : (s : ChunkSet) (counts : Counts) → AreCounted (state_of s) (chunks_of s) counts → IsSettled s → (counts.alone ≡ 0) × (counts.back ≡ 0)
+settled_no s counts p settled = (
+  p.alone ∙ count_none (λ (c : ℕ). eqb (state_of s c) 0) (chunks_of s) (λ c lt. (apart (state_of s c) (settled.settled c lt)).0),
+  p.back ∙ count_none (λ (c : ℕ). eqb (state_of s c) 3) (chunks_of s) (λ c lt. (apart (state_of s c) (settled.settled c lt)).1),
+)
+
+pub independent_kind : (s : ChunkSet) → IsSettled s → is_independent s.kind ≡ true
+independent_kind s settled = ap is_independent settled.kind
 
 -- ---- a copy step that stops
 

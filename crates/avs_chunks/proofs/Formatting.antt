@@ -228,20 +228,16 @@ module _ (kind : Kind) (shadow bitmap e : Seen) (blocks : ℕ) (memory next : Li
 
   Makes-made : {T E : Type 0} (x : T) → Formats {E = E} bitmap blocks (Ok x) e → Makes kind shadow bitmap blocks made
   Makes-made x f = record {
-    is = refl;
-    kind_is = refl;
-    blocks_is = refl;
-    shadow_same = refl;
+    stands = record { is = refl; kind_is = refl; blocks_is = refl; shadow_same = refl };
     fits = Fits-room (Some shadow) bitmap blocks room;
-    lasts = f.goes.lasts;
-    spared = f.goes.done;
-    counted = f.counted;
+    bitmap_is = record { lasts = f.goes.lasts; spared = f.goes.done; counted = f.counted; written = f.done };
     label = λ told. made_label (f.done told) told;
-    written = f.done;
     states = λ c _. memory_state c;
     step = λ told. record { each = λ c lt. memory_state c ∙ sym (made_state (f.done told) told c lt) };
-    shadow_is = λ told m len. shadow_is_master blocks (live made.areas) shadow.image m len (made_state (f.done told) told);
-    master_is = λ told m len. master_is_master blocks (live made.areas) shadow.image m len (made_state (f.done told) told);
+    images = λ told m len. record {
+      shadow = shadow_is_master blocks (live made.areas) shadow.image m len (made_state (f.done told) told);
+      master = master_is_master blocks (live made.areas) shadow.image m len (made_state (f.done told) told);
+    };
   }
 
   pub Makes-format : {T E : Type 0} (q : Result T E) (x : T) (new : ChunkSet) → q ≡ Ok x → Formats bitmap blocks q e → new ≡ made → Makes kind shadow bitmap blocks new
@@ -258,10 +254,7 @@ pub Loads-found : (kind : Kind) (X : Option Seen) (bitmap e : Seen) (blocks : �
 Loads-found kind X bitmap e blocks live_b memory next new room same label area new_is =
     let is : new ≡ record { kind = kind; shadow = X; areas = areas_on bitmap blocks live_b; memory = memory; next = next; blocks = blocks } = new_is ∙ ap (λ (d : Seen). record { kind = kind; shadow = X; areas = areas_on d blocks live_b; memory = memory; next = next; blocks = blocks }) same in
     subst (λ (s : ChunkSet). Loads kind X bitmap blocks live_b s) (sym is) (record {
-      is = refl;
-      kind_is = refl;
-      blocks_is = refl;
-      shadow_same = refl;
+      stands = record { is = refl; kind_is = refl; blocks_is = refl; shadow_same = refl };
       fits = Fits-room X bitmap blocks room;
       label = λ told. record { label = label told };
       step = λ told. record { each = (area told).each };

@@ -1,5 +1,6 @@
 pub mod Quarters
 pub mod Counts
+pub mod Counted
 pub mod Dues
 pub mod Sums
 pub mod StateBlocks

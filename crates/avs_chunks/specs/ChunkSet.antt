@@ -10,7 +10,6 @@ use Rattle.avs_code.specs.declared.labels.LabelUse.{LabelUse}
 use Rattle.avs_model.specs.declared.shadow.Kind.{Kind}
 use Rattle.avs_model.specs.declared.shadow.Kind.TheVariants.{Ind}
 use Rattle.avs_chunks.specs.States.{on_master, on_both, split, on_shadow, state_in, state_on, area_len}
-use Rattle.avs_chunks.specs.Due.{is_independent, NoneDue}
 
 -- a set: its kind, the shadow's disk where it is there, the areas of the states on the bitmap's disk,
 -- the states in memory, those that are staged, and how many blocks it has
@@ -120,16 +119,21 @@ pub record IsOnePlace (s : ChunkSet) (at len : ℕ) : Type 0 where
 pub record IsClean (memory : List ℕ) (chunks : ℕ) : Type 0 where
   pub each : (c : ℕ) → chunks ≤ c → state_in memory c ≡ on_master
 
--- what a set keeps, whatever fails: below `low` no chunk is to be copied
-pub record IsKept (kind : Kind) (shadow : Option Seen) (areas : Areas) (memory next buffer : List ℕ) (blocks low : ℕ) : Type 0 where
-  pub room : (d : Seen) → shadow ≡ Some d → blocks ≤ d.size
+-- both areas of a set of so many blocks lie on the disk, behind the label
+pub record AreLaidOut (areas : Areas) (blocks : ℕ) : Type 0 where
   pub first : areas.first ≡ 1
   pub len : areas.len ≡ area_len (seg_count blocks)
   pub fits : areas.first + 2 * areas.len ≤ areas.disk.size
-  pub states : length memory ≡ 512 * areas.len
-  pub clean : IsClean memory (seg_count blocks)
-  pub staged : length next ≡ 512 * areas.len
-  pub staged_clean : IsClean next (seg_count blocks)
-  pub chunk : length buffer ≡ 32768
+
+-- bytes have the states of so many chunks, as they lie in an area of so many blocks
+pub record HaveStates (bytes : List ℕ) (len chunks : ℕ) : Type 0 where
+  pub long : length bytes ≡ 512 * len
+  pub clean : IsClean bytes chunks
+
+-- what a set keeps, whatever fails
+pub record IsKept (shadow : Option Seen) (areas : Areas) (memory next : List ℕ) (blocks : ℕ) : Type 0 where
+  pub room : (d : Seen) → shadow ≡ Some d → blocks ≤ d.size
   pub small : blocks < 2 ^ 32
-  pub passed : NoneDue (state_in memory) (is_independent kind) low
+  pub laid : AreLaidOut areas blocks
+  pub live : HaveStates memory areas.len (seg_count blocks)
+  pub staged : HaveStates next areas.len (seg_count blocks)

@@ -6,14 +6,11 @@ use Rattle.avs_dev.specs.declared.back.Why.TheVariants.{Size, BadRecord, NoMemor
 use Rattle.avs_model.specs.declared.shadow.Kind.{Kind}
 use Rattle.avs_chunks.specs.States.{on_master}
 use Rattle.avs_chunks.specs.ChunkSet.{ChunkSet, chunks_of, state_of}
-use Rattle.avs_chunks.specs.Making.{Fits, IsSmall, areas_on}
+use Rattle.avs_chunks.specs.Making.{Fits, IsSmall, StandsOn}
 
 -- nothing is read or written
 pub record Finds (kind : Kind) (shadow bitmap : Seen) (blocks : ℕ) (new : ChunkSet) : Type 0 where
-  pub is : new ≡ record { kind = kind; shadow = Some shadow; areas = areas_on bitmap blocks false; memory = new.memory; next = new.next; blocks = blocks }
-  pub kind_is : new.kind ≡ kind
-  pub blocks_is : new.blocks ≡ blocks
-  pub shadow_same : new.shadow ≡ Some shadow
+  pub stands : StandsOn kind (Some shadow) bitmap blocks false new
   pub fits : Fits (Some shadow) bitmap blocks
   pub states : (c : ℕ) → c < chunks_of new → state_of new c ≡ on_master
 

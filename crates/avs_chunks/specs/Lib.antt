@@ -1,5 +1,6 @@
 pub mod States
 pub mod Due
+pub mod Counted
 pub mod ChunkSet
 pub mod Disks
 pub mod Steps

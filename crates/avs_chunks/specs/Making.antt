@@ -44,23 +44,35 @@ IsSmall shadow bitmap blocks need have = IsSmallShadow shadow blocks need have �
 abbrev pub formatted : ℕ → Image
 formatted blocks = label_block (shadow_label blocks) ∷ blank (2 * area_len (seg_count blocks))
 
+-- a set of a kind and so many blocks stands on these disks, with one of both areas live
+pub record StandsOn (kind : Kind) (shadow : Option Seen) (bitmap : Seen) (blocks : ℕ) (live_b : Bool) (new : ChunkSet) : Type 0 where
+  pub is : new ≡ record { kind = kind; shadow = shadow; areas = areas_on bitmap blocks live_b; memory = new.memory; next = new.next; blocks = blocks }
+  pub kind_is : new.kind ≡ kind
+  pub blocks_is : new.blocks ≡ blocks
+  pub shadow_same : new.shadow ≡ shadow
+
+-- the label and both areas were written on a disk, which has not failed
+pub record IsFormatted (old : Seen) (blocks : ℕ) (new : Seen) : Type 0 where
+  pub lasts : Lasts old new
+  pub spared : IsSpared old new
+  pub counted : new.written ≡ counted old.written (blocks_for (seg_count blocks))
+  pub written : IsTold old → new.image ≡ put old.image 0 (formatted blocks)
+
+-- both images are that of the master's disk
+pub record ShowsMaster (s : ChunkSet) (m : Image) : Type 0 where
+  pub shadow : shadow_image s m ≡ m
+  pub master : master_image s m ≡ m
+
 -- A new set: the label and both areas are written, and nothing of the shadow is. Each chunk stands on the master
 -- alone, so both images are the master's.
 pub record Makes (kind : Kind) (shadow bitmap : Seen) (blocks : ℕ) (new : ChunkSet) : Type 0 where
-  pub is : new ≡ record { kind = kind; shadow = Some shadow; areas = areas_on new.areas.disk blocks false; memory = new.memory; next = new.next; blocks = blocks }
-  pub kind_is : new.kind ≡ kind
-  pub blocks_is : new.blocks ≡ blocks
-  pub shadow_same : new.shadow ≡ Some shadow
+  pub stands : StandsOn kind (Some shadow) new.areas.disk blocks false new
   pub fits : Fits (Some shadow) bitmap blocks
-  pub lasts : Lasts bitmap new.areas.disk
-  pub spared : IsSpared bitmap new.areas.disk
-  pub counted : new.areas.disk.written ≡ counted bitmap.written (blocks_for (seg_count blocks))
+  pub bitmap_is : IsFormatted bitmap blocks new.areas.disk
   pub label : IsTold bitmap → HasLabel new
-  pub written : IsTold bitmap → new.areas.disk.image ≡ put bitmap.image 0 (formatted blocks)
   pub states : (c : ℕ) → c < chunks_of new → state_of new c ≡ on_master
   pub step : IsTold bitmap → IsInStep new
-  pub shadow_is : IsTold bitmap → (m : Image) → length m ≡ blocks → shadow_image new m ≡ m
-  pub master_is : IsTold bitmap → (m : Image) → length m ≡ blocks → master_image new m ≡ m
+  pub images : IsTold bitmap → (m : Image) → length m ≡ blocks → ShowsMaster new m
 
 -- the label is written before the areas: it stands, or no block behind it has changed
 abbrev pub IsLabelFirst : Image → ℕ → Image → Type 0
@@ -88,10 +100,7 @@ pub record IsNotLabel (block : Block) (blocks field : ℕ) : Type 0 where
 
 -- a set that is found on disks: nothing of them changes
 pub record Loads (kind : Kind) (shadow : Option Seen) (bitmap : Seen) (blocks : ℕ) (live_b : Bool) (new : ChunkSet) : Type 0 where
-  pub is : new ≡ record { kind = kind; shadow = shadow; areas = areas_on bitmap blocks live_b; memory = new.memory; next = new.next; blocks = blocks }
-  pub kind_is : new.kind ≡ kind
-  pub blocks_is : new.blocks ≡ blocks
-  pub shadow_same : new.shadow ≡ shadow
+  pub stands : StandsOn kind shadow bitmap blocks live_b new
   pub fits : Fits shadow bitmap blocks
   pub label : IsTold bitmap → HasLabel new
   pub step : IsTold bitmap → IsInStep new

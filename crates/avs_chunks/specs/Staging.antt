@@ -1,6 +1,6 @@
 -- An update: the states that a set is to have are staged, and one commit elsewhere makes them live.
 use Rattle.std.specs.Prelude.{◌≡◌, ◌⊎◌, ℕ, ◌+◌, ◌-◌, ◌*◌, ◌/◌, ◌<◌, ◌≤◌, ◌==◌, nat_lt, min, Bool, true, not, ◌&&◌, ◌||◌, if◌then◌else◌, List, Result, OnOk, OnErr}
-use Rattle.avs_seg.specs.Image.{block_at}
+use Rattle.avs_seg.specs.Image.{Image, block_at}
 use Rattle.avs_seg.specs.Segment.{seg_len}
 use Rattle.avs_dev.specs.Seen.{Seen, IsTold, GoesOn}
 use Rattle.avs_dev.specs.Devices.{AllGoOn}
@@ -111,6 +111,15 @@ stage_work Bitmap = 1
 abbrev pub part_work : ChunkSet → ℕ → List ℕ → ChunkDisk → ℕ
 part_work s part bits d = ahead_work (told_by bits part) s (2048 * part) (part_end (chunks_of s) part - 2048 * part) d + stage_work d
 
+-- the chunks of a part that are told and stand on the master alone are on the shadow's disk too
+pub record AreAhead (old : ChunkSet) (m : Image) (part : ℕ) (bits : List ℕ) (new : ChunkSet) : Type 0 where
+  pub each : (i : ℕ) → i < old.blocks → 2048 * part ≤ i / 64 → i / 64 < 2048 * (part + 1) → is_ahead (told_by bits part) old (i / 64) ≡ true → block_at (disk_of new.shadow).image i ≡ block_at m i
+
+-- they are copied before anything is staged
+pub record CopiesFirst {T E : Type 0} (old : ChunkSet) (m : Image) (part : ℕ) (bits : List ℕ) (result : Result T E) (new : ChunkSet) : Type 0 where
+  pub done : OnOk result (AreAhead old m part bits new)
+  pub stopped : OnErr result ((new.areas ≡ old.areas) ⊎ AreAhead old m part bits new)
+
 -- The chunks of a part that are told and stand on the master alone are copied to the shadow, and then its states are staged
 -- with the told chunks split. Nothing that is seen or live changes.
 pub record StagesPart {T E : Type 0} (old : ChunkSet) (m : Seen) (part : ℕ) (bits : List ℕ) (result : Result T E) (new : ChunkSet) (m_new : Seen) : Type 0 where
@@ -118,7 +127,7 @@ pub record StagesPart {T E : Type 0} (old : ChunkSet) (m : Seen) (part : ℕ) (b
   pub goes : AllGoOn (disk_at old m) result (disk_at new m_new)
   pub around : KeepsAround old m new m_new
   pub seen : IsKnown old → IsTold m → KeepsBlocks old m.image new m_new.image
-  pub copied : IsTold m → IsTold (disk_of old.shadow) → OnOk result ((i : ℕ) → i < old.blocks → 2048 * part ≤ i / 64 → i / 64 < 2048 * (part + 1) → is_ahead (told_by bits part) old (i / 64) ≡ true → block_at (disk_of new.shadow).image i ≡ block_at m.image i)
+  pub copied : IsTold m → IsTold (disk_of old.shadow) → CopiesFirst old m.image part bits result new
   pub staged : IsTold old.areas.disk → OnOk result (AreSetTo (staged_state old) (staged_state new) (split_to (chunks_of old) bits (2048 * part) (state_of old)) (2048 * part) (2048 * (part + 1)))
   pub held : OnOk result (AreSetTo (next_of old) (next_of new) (split_to (chunks_of old) bits (2048 * part) (state_of old)) (2048 * part) (2048 * (part + 1)))
   pub adds : Adds (disk_at old m) (part_work old part bits) result (disk_at new m_new)

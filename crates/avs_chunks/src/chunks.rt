@@ -1,5 +1,5 @@
 // A shadow set over the disk of its master.
-ghost use Rattle.std.specs.Prelude.{◌≡◌, ◌<◌, ◌≤◌, IfOk, IfErr, None, Some, is_some};
+ghost use Rattle.std.specs.Prelude.{◌≡◌, ◌<◌, ◌≤◌, IfOk, IfErr, None, Some, is_some, length};
 ghost use Rattle.std.specs.Option.{option_map};
 ghost use Rattle.avs_dev.specs.Seen.{Seen};
 ghost use Rattle.avs_chunks.specs.States.{code_of};
@@ -7,6 +7,7 @@ ghost use Rattle.avs_chunks.specs.ChunkSet.{IsKept, chunks_of, state_of};
 ghost use Rattle.avs_chunks.specs.Making.{Makes, MakeRefused, Loads, LoadRefused, Fits, areas_on};
 ghost use Rattle.avs_chunks.specs.Finding.{Finds, FindRefused};
 
+use crate::counting::Counts;
 use crate::formats::{Room, area_len, find, format, make_room};
 use crate::states::{ChunkState, state_in};
 use avs_dev::{Back, Closed2, Disk, Why};
@@ -33,10 +34,12 @@ pub struct Chunks<D: Disk> {
     pub(crate) kind: Kind,
     pub(crate) shadow: Option<D>,
     pub(crate) flip: Flip<D>,
-    // The live states, as they lie on the disk.
+    // The live states, as they lie on the disk, and how many chunks are in each.
     pub(crate) memory: Vec<u8>,
-    // The staged states, as they lie on the disk once all parts are staged.
+    pub(crate) counts: Counts,
+    // The staged states, as they lie on the disk once all parts are staged, and how many chunks are in each.
     pub(crate) next: Vec<u8>,
+    pub(crate) next_counts: Counts,
     pub(crate) blocks: u32,
     // No chunk below this one is to be copied.
     pub(crate) low: u32,
@@ -45,14 +48,23 @@ pub struct Chunks<D: Disk> {
 }
 
 impl<D: Disk> Model for Chunks<D> {
+    ghost use Rattle.std.specs.Prelude.{◌≡◌, length};
     ghost use Rattle.std.specs.Option.{option_map};
+    ghost use Rattle.avs_seg.specs.Segment.{seg_count};
+    ghost use Rattle.avs_chunks.specs.States.{state_in};
+    ghost use Rattle.avs_chunks.specs.Due.{NoneDue, is_independent};
+    ghost use Rattle.avs_chunks.specs.Counted.{AreCounted};
     ghost use Rattle.avs_chunks.specs.ChunkSet.{ChunkSet, IsKept};
 
     ghost Value = { ChunkSet };
 
     ghost view = { λ s. record { kind = s.kind; shadow = option_map D.seen s.shadow; areas = s.flip; memory = s.memory.items; next = s.next.items; blocks = s.blocks } };
 
-    ghost invariant = { λ s. IsKept s.kind (option_map D.seen s.shadow) s.flip s.memory.items s.next.items s.buffer.items s.blocks s.low };
+    ghost invariant = { λ s. IsKept (option_map D.seen s.shadow) s.flip s.memory.items s.next.items s.blocks
+        × AreCounted (state_in s.memory.items) (seg_count s.blocks) s.counts
+        × AreCounted (state_in s.next.items) (seg_count s.blocks) s.next_counts
+        × NoneDue (state_in s.memory.items) (is_independent s.kind) s.low
+        × (length s.buffer.items ≡ 32768) };
 }
 
 impl<D: Disk> Chunks<D> {
@@ -142,7 +154,8 @@ impl<D: Disk> Chunks<D> {
         live_b: bool,
         room: Room,
     ) -> Chunks<D>
-        requires { IsKept kind (option_map D.seen shadow) (areas_on (D.seen bitmap) blocks live_b) room.memory.items room.next.items room.buffer.items blocks 0 }
+        requires kept { IsKept (option_map D.seen shadow) (areas_on (D.seen bitmap) blocks live_b) room.memory.items room.next.items blocks }
+        requires buffer { length room.buffer.items ≡ 32768 }
         ensures { result ≡ record { kind = kind; shadow = option_map D.seen shadow; areas = areas_on (D.seen bitmap) blocks live_b; memory = room.memory.items; next = room.next.items; blocks = blocks } }
     {
         let Room {
@@ -154,7 +167,9 @@ impl<D: Disk> Chunks<D> {
             kind,
             shadow,
             flip: Flip::load(bitmap, 1, area_len(blocks), live_b),
+            counts: Counts::of(&memory, seg_count(blocks)),
             memory,
+            next_counts: Counts::of(&next, seg_count(blocks)),
             next,
             blocks,
             low: 0,

@@ -6,7 +6,7 @@ ghost use Rattle.avs_chunks.specs.Due.{is_independent, is_due, NoneDue};
 ghost use Rattle.avs_chunks.specs.Copying.{FindsDue, CopiesOne, back_of, left_of, moved_of};
 
 use crate::chunks::Chunks;
-use crate::states::{ChunkState, count_in, state_in};
+use crate::states::{ChunkState, state_in};
 use crate::words::{WORD, can_pass};
 use avs_dev::Disk;
 use avs_model::Kind;
@@ -79,7 +79,7 @@ impl<D: Disk> Chunks<D> {
         ensures settled { IsTrue result → IsSettled self.now }
         ensures unsettled { IsTrue (not result) → IsSettled self.now → ⊥ }
     {
-        is_independent(self.kind) && self.next_due().is_none()
+        is_independent(self.kind) && self.counts.none_alone()
     }
 
     /// Whether chunks can be saved: the shadow's disk is there, or the set is independent and no chunk of it is to be copied.
@@ -109,7 +109,7 @@ impl<D: Disk> Chunks<D> {
         ensures counted { result ≡ back_of self.now }
         ensures most { result ≤ 2 ^ 26 }
     {
-        count_in(&self.memory, seg_count(self.blocks), ChunkState::OnShadow)
+        self.counts.back
     }
 
     /// How many chunks are split.
@@ -117,7 +117,7 @@ impl<D: Disk> Chunks<D> {
         ensures counted { result ≡ moved_of self.now }
         ensures most { result ≤ 2 ^ 26 }
     {
-        count_in(&self.memory, seg_count(self.blocks), ChunkState::Split)
+        self.counts.split
     }
 
     /// How many chunks of an independent set stand on the master alone. Of a set of another kind none counts.
@@ -126,7 +126,7 @@ impl<D: Disk> Chunks<D> {
         ensures most { result ≤ 2 ^ 26 }
     {
         match self.kind {
-            Kind::Ind => count_in(&self.memory, seg_count(self.blocks), ChunkState::OnMaster),
+            Kind::Ind => self.counts.alone,
             Kind::Dep | Kind::Compact => 0,
         }
     }

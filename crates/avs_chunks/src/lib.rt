@@ -5,6 +5,7 @@ mod arming;
 mod chunks;
 mod copies;
 mod copying;
+mod counting;
 mod formats;
 mod laws;
 mod parts;

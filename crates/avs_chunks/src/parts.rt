@@ -2,12 +2,14 @@
 ghost use Rattle.std.specs.Prelude.{◌≡◌, ◌==◌, ℕ, ◌+◌, ◌*◌, ◌<◌, ◌≤◌, ◌^◌, true, IsOk, length};
 ghost use Rattle.avs_bits.specs.Bit.{bit_of, IsPut};
 ghost use Rattle.avs_chunks.specs.States.{code_of, state_in, split, area_len};
+ghost use Rattle.avs_chunks.specs.Counted.{AreCounted};
 ghost use Rattle.avs_chunks.specs.ChunkSet.{chunks_of, state_of};
 ghost use Rattle.avs_chunks.specs.Staging.{AreSetTo, StagesParts, split_to};
 
 use crate::chunks::Chunks;
+use crate::counting::{Counts, set_counted};
 use crate::staging::stage_next;
-use crate::states::{ChunkState, STATES, is_in, set_state, state_in};
+use crate::states::{ChunkState, STATES, is_in, state_in};
 use avs_dev::Disk;
 use avs_seg::{Failed, seg_count};
 
@@ -57,18 +59,30 @@ fn split_state(memory: &[u8], split: &[u8; BITS], first: u32, end: u32, chunk: u
     state_in(memory, chunk)
 }
 
-// Sets the states of a part as those in memory, with the chunks split that are told.
-fn fill_split(next: &mut [u8], memory: &[u8], part: u32, split: &[u8; BITS], end: u32)
+// Sets the states of a part as those in memory, with the chunks split that are told. The first `end` chunks are counted.
+fn fill_split(
+    next: &mut [u8],
+    counts: Counts,
+    end: u32,
+    memory: &[u8],
+    part: u32,
+    split: &[u8; BITS],
+) -> Counts
+    requires few { end < 2 ^ 31 }
+    requires counted { AreCounted (state_in next.old) end counts }
     requires inside { 512 * (part + 1) ≤ length memory.now }
     requires long { length next.old ≡ length memory.now }
     requires small { part < 2 ^ 15 }
     ensures len { length next.new ≡ length next.old }
     ensures set { AreSetTo (state_in next.old) (state_in next.new) (split_to end split.now (2048 * part) (state_in memory.now)) (2048 * part) (2048 * (part + 1)) }
+    ensures counted { AreCounted (state_in next.new) end result }
 {
+    let mut counts = counts;
     for chunk in STATES * part..STATES * (part + 1) {
         let state = split_state(memory, split, STATES * part, end, chunk);
-        set_state(next, chunk, state);
+        counts = set_counted(next, counts, end, chunk, state);
     }
+    counts
 }
 
 impl<D: Disk> Chunks<D> {
@@ -89,7 +103,8 @@ impl<D: Disk> Chunks<D> {
         ensures { StagesParts self.old (split_to (chunks_of self.old) split.now (2048 * part) (state_of self.old)) part 1 result self.new }
     {
         let chunks = seg_count(self.blocks);
-        fill_split(&mut self.next, &self.memory, part, split, chunks);
+        let counts = self.next_counts;
+        self.next_counts = fill_split(&mut self.next, counts, chunks, &self.memory, part, split);
         stage_next(&mut self.flip, &self.next, part)
     }
 }

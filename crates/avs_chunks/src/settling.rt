@@ -9,7 +9,7 @@ use crate::copies::copy_chunk;
 use crate::put::put_state;
 use crate::states::{ChunkState, is_in, state_in};
 use avs_dev::Disk;
-use avs_seg::{Failed, seg_span};
+use avs_seg::{Failed, seg_count, seg_span};
 
 impl<D: Disk> Chunks<D> {
     /// Copies a chunk whose contents stand on one disk alone to the other, and then gives it the state.
@@ -22,7 +22,16 @@ impl<D: Disk> Chunks<D> {
         let state = state_in(&self.memory, chunk);
         let span = seg_span(chunk, self.blocks);
         copy_chunk(state, master, &mut self.shadow, span, &mut self.buffer)?;
-        put_state(&mut self.flip, &mut self.memory, chunk, target)
+        let chunks = seg_count(self.blocks);
+        let flip = &mut self.flip;
+        put_state(
+            flip,
+            &mut self.memory,
+            &mut self.counts,
+            chunks,
+            chunk,
+            target,
+        )
     }
 
     /// Saves a chunk before the master changes there: it is settled as split, unless it is split.

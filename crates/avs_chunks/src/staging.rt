@@ -1,16 +1,18 @@
 // Updates: the states that a set is to have are staged, and one commit elsewhere makes them live.
 ghost use Rattle.std.specs.Prelude.{◌≡◌, ℕ, ◌+◌, ◌*◌, ◌<◌, ◌≤◌, ◌^◌, length};
 ghost use Rattle.avs_chunks.specs.States.{code_of, state_in, area_len};
+ghost use Rattle.avs_chunks.specs.Counted.{AreCounted};
 ghost use Rattle.avs_chunks.specs.ChunkSet.{chunks_of, state_of};
 ghost use Rattle.avs_chunks.specs.Staging.{AreSetTo, StagesNext, StagesParts, TurnsSet, to_shadow, to_master, updated};
 
 use crate::chunks::Chunks;
+use crate::counting::{Counts, set_counted};
 use crate::formats::area_len;
-use crate::states::{ChunkState, STATES, set_state, state_in};
+use crate::states::{ChunkState, STATES, state_in};
 use avs_dev::Disk;
 use avs_flip::Flip;
 use avs_model::Kind;
-use avs_seg::{BLOCK, Failed};
+use avs_seg::{BLOCK, Failed, seg_count};
 use std::mem;
 
 // What an update makes of the states of a set.
@@ -56,17 +58,30 @@ fn updated(update: Update, state: ChunkState) -> ChunkState
     }
 }
 
-// Sets the states of a part as an update makes them of those in memory.
-fn fill_part(next: &mut [u8], memory: &[u8], part: u32, update: Update)
+// Sets the states of a part as an update makes them of those in memory. The first `end` chunks are counted.
+fn fill_part(
+    next: &mut [u8],
+    counts: Counts,
+    end: u32,
+    memory: &[u8],
+    part: u32,
+    update: Update,
+) -> Counts
+    requires few { end < 2 ^ 31 }
+    requires counted { AreCounted (state_in next.old) end counts }
     requires inside { 512 * (part + 1) ≤ length memory.now }
     requires long { length next.old ≡ length memory.now }
     requires small { part < 2 ^ 15 }
     ensures len { length next.new ≡ length next.old }
     ensures set { AreSetTo (state_in next.old) (state_in next.new) (λ c. updated update (state_in memory.now c)) (2048 * part) (2048 * (part + 1)) }
+    ensures counted { AreCounted (state_in next.new) end result }
 {
+    let mut counts = counts;
     for chunk in STATES * part..STATES * (part + 1) {
-        set_state(next, chunk, updated(update, state_in(memory, chunk)));
+        let state = updated(update, state_in(memory, chunk));
+        counts = set_counted(next, counts, end, chunk, state);
     }
+    counts
 }
 
 /// Stages the block with the states of a part.
@@ -88,7 +103,9 @@ impl<D: Disk> Chunks<D> {
         requires { part < area_len (chunks_of self.old) }
         ensures { StagesParts self.old (λ c. updated update (state_of self.old c)) part 1 result self.new }
     {
-        fill_part(&mut self.next, &self.memory, part, update);
+        let chunks = seg_count(self.blocks);
+        let counts = self.next_counts;
+        self.next_counts = fill_part(&mut self.next, counts, chunks, &self.memory, part, update);
         stage_next(&mut self.flip, &self.next, part)
     }
 
@@ -123,6 +140,7 @@ impl<D: Disk> Chunks<D> {
     {
         self.flip.turn();
         mem::swap(&mut self.memory, &mut self.next);
+        mem::swap(&mut self.counts, &mut self.next_counts);
         self.low = 0;
     }
 }

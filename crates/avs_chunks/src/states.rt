@@ -17,8 +17,8 @@ pub enum ChunkState {
 }
 
 impl ChunkState {
-    // The two bits that stand for it.
-    fn code(self) -> u8
+    /// The two bits that stand for it.
+    pub(crate) fn code(self) -> u8
         ensures is { result ≡ code_of self }
         ensures small { result < 4 }
     {
@@ -106,8 +106,8 @@ pub(crate) fn clear_from(bytes: &mut [u8], first: u32)
     }
 }
 
-// 1 where it holds.
-fn one_if(holds: bool) -> u32
+/// 1 where it holds.
+pub(crate) fn one_if(holds: bool) -> u32
     ensures { result ≡ (if holds then 1 else 0) }
 {
     if holds { 1 } else { 0 }

@@ -4,6 +4,8 @@
 #[cfg(test)]
 mod away;
 #[cfg(test)]
+mod calls;
+#[cfg(test)]
 mod disks;
 #[cfg(test)]
 mod exits;

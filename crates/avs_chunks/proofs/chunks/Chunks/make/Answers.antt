@@ -3,19 +3,13 @@ use Rattle.avs_chunks.specs.Making.{HaveRoom}
 use Rattle.avs_chunks.proofs.Formatting.{Makes-format, IsClean-zeros}
 use Rattle.avs_chunks.proofs.chunks.Chunks.make.Goals as goal
 
-pub over-requires : goal.over-requires
-over-requires g c = record {
+pub over-requires-clause-kept : goal.over-requires-clause-kept
+over-requires-clause-kept g c = record {
   room = search rules;
-  first = search rules;
-  len = search rules;
-  fits = search rules;
-  states = search rules;
-  clean = IsClean-zeros c.in-Ok.room.memory.items _ _ c.in-Ok.ensures.memory;
-  staged = search rules;
-  staged_clean = IsClean-zeros c.in-Ok.room.next.items _ _ c.in-Ok.ensures.next;
-  chunk = search rules;
   small = search rules;
-  passed = record { each = λ k lt. absurd (omega (arith, lt)) };
+  laid = record { first = search rules; len = search rules; fits = search rules };
+  live = record { long = search rules; clean = IsClean-zeros c.in-Ok.room.memory.items _ _ c.in-Ok.ensures.memory };
+  staged = record { long = search rules; clean = IsClean-zeros c.in-Ok.room.next.items _ _ c.in-Ok.ensures.next };
 }
 
 pub returns-in-Ok-format-clause-made : goal.returns-in-Ok-format-clause-made

@@ -20,5 +20,5 @@ returns g c =
     let there : IsTrue (is_some (option_map g.D.Disk.seen c.self.inside.shadow)) = subst (λ (b : Bool). IsTrue b) (sym saved.keeps.shape.there) c.requires.there in
     writes_put c.args.self.now _ (g.D.Disk.seen c.args.master.now) (g.D.Disk.seen c.save_range.new.master) c.args.at c.args.bytes.now c.requires.some c.requires.whole c.requires.inside
     (option_map g.D.Disk.seen c.write_there.new.shadow) (search rules)
-    (subst (λ (n : ℕ). n ≤ (disk_of (option_map g.D.Disk.seen c.self.inside.shadow)).size) saved.keeps.shape.blocks (room_there (option_map g.D.Disk.seen c.self.inside.shadow) c.self.inside.blocks there c.self.invariant.room))
+    (subst (λ (n : ℕ). n ≤ (disk_of (option_map g.D.Disk.seen c.self.inside.shadow)).size) saved.keeps.shape.blocks (room_there (option_map g.D.Disk.seen c.self.inside.shadow) c.self.inside.blocks there c.self.invariant.0.room))
     c.in_ok-save_range.field-0 saved c.write_there.result c.write_there.ensures.writes
