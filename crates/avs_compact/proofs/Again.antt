@@ -1,16 +1,18 @@
 -- What a set keeps, whatever fails, once a chunk was settled.
-use Rattle.std.proofs.Common.{◌≡◌, ◌≢◌, ◌⊎◌, inl, inr, ℕ, ◌+◌, ◌*◌, ◌^◌, ◌-◌, ◌<◌, ◌≤◌, min, List, length, Option, Some, None, is_some, Result, Ok, Err, OnOk, OnErr, refl, sym, ◌∙◌, ap, subst, arith}
-use Rattle.std.proofs.lemmas.Bool.{cases_lt, false≢true}
+use Rattle.std.proofs.Common.{◌≡◌, ◌≢◌, ◌⊎◌, inl, inr, ℕ, ◌+◌, ◌*◌, ◌^◌, ◌-◌, ◌<◌, ◌≤◌, min, Bool, cond, List, length, take, Option, Some, None, is_some, Result, Ok, Err, OnOk, OnErr, refl, sym, ◌∙◌, ap, subst, arith}
+use Rattle.std.specs.Prelude.{nat_lt}
+use Rattle.std.proofs.lemmas.Bool.{cases_lt, false≢true, lt-ltb, le-ltb}
 use Rattle.avs_seg.specs.Segment.{seg_count}
 use Rattle.avs_dev.specs.Seen.{Seen}
 use Rattle.avs_flip.specs.Areas.{Areas}
-use Rattle.avs_over.specs.Slots.{Owners}
+use Rattle.avs_over.specs.Slots.{Owners, used_in}
 use Rattle.avs_over.specs.Over.{OverSet}
 use Rattle.avs_compact.specs.Entries.{entry_in, entry_for, state_by, slot_by}
 use Rattle.avs_compact.specs.CompactSet.{disk_of}
 use Rattle.avs_compact.specs.Slots.{IsKept, IsClean, Marks, MarksSlot, ArePassed}
 use Rattle.avs_compact.specs.Steps.{TakesSlot, PutsEntry}
 use Rattle.avs_compact.specs.declared.marks.Counts.{Counts}
+use Rattle.avs_compact.proofs.Kept.{kept_more, kept_all}
 use Rattle.avs_compact.proofs.Placed.{SetsOne, marks_new, marks_old, passed_new, passed_old}
 use Rattle.avs_compact.proofs.Settled.{IsNewEntry, target_some}
 use Rattle.avs_compact.proofs.SettlingNew.{new_entry}
@@ -44,6 +46,46 @@ kept_again shadow X own areas a' memory M' next buffer B' blocks p still size pl
       few = p.few;
     }
 
+-- the staged entries were changed in memory
+pub kept_next : (shadow : Option Seen) (own : ℕ) (areas : Areas) (memory next N buffer : List ℕ) (blocks : ℕ) → IsKept shadow own areas memory next buffer blocks → length N ≡ length next → IsClean N (seg_count blocks) → IsKept shadow own areas memory N buffer blocks
+kept_next shadow own areas memory next N buffer blocks p long clean = record {
+  room = p.room;
+  first = p.first;
+  len = p.len;
+  fits = p.fits;
+  entries = p.entries;
+  clean = p.clean;
+  staged = long ∙ p.staged;
+  staged_clean = clean;
+  chunk = p.chunk;
+  small = p.small;
+  few = p.few;
+}
+
+pub clean_put : (old new : List ℕ) (chunk n : ℕ) → ((d : ℕ) → d ≢ chunk → entry_in new d ≡ entry_in old d) → chunk < n → IsClean old n → IsClean new n
+clean_put old new chunk n others there p = record { each = λ c past. others c (λ e. omega (arith, e, past, there)) ∙ p.each c past }
+
+-- a slot is kept
+pub passed_ahead : (f : ℕ → ℕ) (own n : ℕ) (T : Owners) (counts : Counts) (low ahead due slot by : ℕ) (o o1 : OverSet) → Marks f own n T counts → ArePassed f n T low ahead due → TakesSlot T low by o (Some slot) o1 → (L k : ℕ) → L ≡ min own (slot + 1) → k ≡ cond (nat_lt slot own) 1 0
+    → ArePassed f n T L (ahead + k) due
+passed_ahead f own n T counts low ahead due slot by o o1 p a t L k is more = record {
+  inside = omega (arith, is, p.long);
+  kept = elim (cases_lt slot own) [
+    | inl lt ↦
+        let there : slot < length T = omega (arith, lt, p.long) in
+        let e : L ≡ slot + 1 = omega (arith, is, lt) in
+        let one : k ≡ 1 = more ∙ ap (λ (b : Bool). cond b 1 0) (lt-ltb slot own lt) in
+        ap (λ (j : ℕ). used_in (take j T) + (ahead + k)) e ∙ ap (λ (j : ℕ). used_in (take (slot + 1) T) + (ahead + j)) one ∙ kept_more T low ahead a.inside a.kept slot (t.least there).0 there (t.own there).0 (t.least there).1 ∙ sym e
+    | inr past ↦
+        let behind : length T ≤ slot = omega (arith, past, p.long) in
+        let e : L ≡ length T = omega (arith, is, past, p.long) in
+        let none : k ≡ 0 = more ∙ ap (λ (b : Bool). cond b 1 0) (le-ltb slot own past) in
+        let all = kept_all T low ahead a.inside a.kept (t.full behind) in
+        ap (λ (j : ℕ). used_in (take j T) + (ahead + k)) e ∙ omega (arith, none, all) ∙ sym e
+  ];
+  settled = a.settled;
+}
+
 -- the entry of a chunk was set in memory
 module _ (memory M' : List ℕ) (chunk target slot n : ℕ) (puts : PutsEntry memory M' chunk (entry_for target slot)) (there : chunk < n) (targets : (target ≡ 2) ⊎ (target ≡ 1)) (small : slot < 2 ^ 30 - 1) where
   is_new : IsNewEntry (entry_for target slot) target slot
@@ -64,16 +106,16 @@ module _ (memory M' : List ℕ) (chunk target slot n : ℕ) (puts : PutsEntry me
   pub clean_again : IsClean memory n → IsClean M' n
   clean_again p = record { each = λ c past. puts.others c (λ e. omega (arith, e, past, there)) ∙ p.each c past }
 
-  module _ (own : ℕ) (T : Owners) (counts : Counts) (low due : ℕ) (marks : Marks (entry_in memory) own n T counts) (passed : ArePassed (entry_in memory) n T low due) where
+  module _ (own : ℕ) (T : Owners) (counts : Counts) (low ahead due : ℕ) (marks : Marks (entry_in memory) own n T counts) (passed : ArePassed (entry_in memory) n T low ahead due) where
     -- in a slot that the chunk had
     pub had_marks : entry_in memory chunk ≢ 0 → slot ≡ slot_by (entry_in memory chunk) → Marks (entry_in M') own n T counts
     had_marks some is = marks_old (entry_in memory) (entry_in M') own n chunk slot sets some (sym is) T counts marks
 
-    pub had_passed : ArePassed (entry_in M') n T low due
-    had_passed = passed_old (entry_in memory) (entry_in M') n chunk slot T low due sets state_now passed
+    pub had_passed : ArePassed (entry_in M') n T low ahead due
+    had_passed = passed_old (entry_in memory) (entry_in M') n chunk slot T low ahead due sets state_now passed
 
     -- in one that was taken
-    module _ (by : ℕ) (o o1 : OverSet) (t : TakesSlot T by o (Some slot) o1) (none : entry_in memory chunk ≡ 0) (T' : Owners) (after : Counts) (q : MarksSlot T counts chunk slot T' after) where
+    module _ (by : ℕ) (o o1 : OverSet) (t : TakesSlot T low by o (Some slot) o1) (none : entry_in memory chunk ≡ 0) (T' : Owners) (after : Counts) (q : MarksSlot T counts chunk slot T' after) where
       in_table : slot < own → slot < length T
       in_table lt = omega (arith, lt, marks.long)
 
@@ -83,20 +125,20 @@ module _ (memory M' : List ℕ) (chunk target slot n : ℕ) (puts : PutsEntry me
       pub took_marks : Marks (entry_in M') own n T' after
       took_marks = marks_new (entry_in memory) (entry_in M') own n chunk slot sets none T T' counts after marks q (λ lt. (t.own (in_table lt)).0)
 
-      pub took_passed : ArePassed (entry_in M') n T' (min own (slot + 1)) due
-      took_passed = passed_new (entry_in memory) (entry_in M') own n chunk slot sets none T T' counts after marks q low due passed state_now (λ lt. t.below (in_table lt)) (λ past. t.full (past_table past))
+      pub took_passed : ArePassed (entry_in M') n T' (min own (slot + 1)) ahead due
+      took_passed = passed_new (entry_in memory) (entry_in M') own n chunk slot sets none T T' counts after marks q low ahead due passed state_now (λ lt. (t.own (in_table lt)).0) (λ lt. t.least (in_table lt)) (λ past. t.full (past_table past))
 
 -- what stands of the entries in memory at either exit, where the chunk had its slot
-pub record StandsAgain (M' : List ℕ) (n own : ℕ) (T : Owners) (counts : Counts) (low due : ℕ) : Type 0 where
+pub record StandsAgain (M' : List ℕ) (n own : ℕ) (T : Owners) (counts : Counts) (low ahead due : ℕ) : Type 0 where
   pub clean : IsClean M' n
   pub marks : Marks (entry_in M') own n T counts
-  pub passed : ArePassed (entry_in M') n T low due
+  pub passed : ArePassed (entry_in M') n T low ahead due
 
-pub stands_again : (memory M' : List ℕ) (chunk target slot n own : ℕ) (T : Owners) (counts : Counts) (low due : ℕ) {R E : Type 0} (r : Result R E) → OnOk r (PutsEntry memory M' chunk (entry_for target slot)) → OnErr r (M' ≡ memory)
-    → chunk < n → (target ≡ 2) ⊎ (target ≡ 1) → slot < 2 ^ 30 - 1 → entry_in memory chunk ≢ 0 → slot ≡ slot_by (entry_in memory chunk) → StandsAgain memory n own T counts low due → StandsAgain M' n own T counts low due
-stands_again memory M' chunk target slot n own T counts low due (Ok x) puts unset there targets small some is p = record {
+pub stands_again : (memory M' : List ℕ) (chunk target slot n own : ℕ) (T : Owners) (counts : Counts) (low ahead due : ℕ) {R E : Type 0} (r : Result R E) → OnOk r (PutsEntry memory M' chunk (entry_for target slot)) → OnErr r (M' ≡ memory)
+    → chunk < n → (target ≡ 2) ⊎ (target ≡ 1) → slot < 2 ^ 30 - 1 → entry_in memory chunk ≢ 0 → slot ≡ slot_by (entry_in memory chunk) → StandsAgain memory n own T counts low ahead due → StandsAgain M' n own T counts low ahead due
+stands_again memory M' chunk target slot n own T counts low ahead due (Ok x) puts unset there targets small some is p = record {
   clean = clean_again memory M' chunk target slot n puts there targets small p.clean;
-  marks = had_marks memory M' chunk target slot n puts there targets small own T counts low due p.marks p.passed some is;
-  passed = had_passed memory M' chunk target slot n puts there targets small own T counts low due p.marks p.passed;
+  marks = had_marks memory M' chunk target slot n puts there targets small own T counts low ahead due p.marks p.passed some is;
+  passed = had_passed memory M' chunk target slot n puts there targets small own T counts low ahead due p.marks p.passed;
 }
-stands_again memory M' chunk target slot n own T counts low due (Err e) puts unset there targets small some is p = subst (λ (l : List ℕ). StandsAgain l n own T counts low due) (sym unset) p
+stands_again memory M' chunk target slot n own T counts low ahead due (Err e) puts unset there targets small some is p = subst (λ (l : List ℕ). StandsAgain l n own T counts low ahead due) (sym unset) p

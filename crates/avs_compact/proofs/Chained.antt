@@ -1,18 +1,17 @@
 -- One call on the contents after another, and chunks that are saved one after another.
-use Rattle.std.proofs.Common.{◌≡◌, ◌≢◌, ◌⊎◌, inl, inr, ℕ, zero, suc, ◌+◌, ◌-◌, ◌/◌, ◌<◌, ◌≤◌, Bool, cond, eqb, filter, length, Option, Some, Result, Ok, Err, IsOk, OnOk, OnErr, ◌∙◌, sym, refl, ap, subst, arith}
-use Rattle.std.specs.List.{range_with_len}
+use Rattle.std.proofs.Common.{◌≡◌, ◌≢◌, ◌⊎◌, inl, inr, ℕ, zero, suc, ◌+◌, ◌-◌, ◌/◌, ◌<◌, ◌≤◌, cond, eqb, Some, Result, Ok, Err, IsOk, ◌∙◌, sym, refl, ap, subst, arith}
 use Rattle.std.proofs.lemmas.Bool.{cases_lt, cases_eq, false≢true}
 use Rattle.std.proofs.lemmas.Result.{on_ok_weaker, on_err_weaker}
 use Rattle.avs_seg.specs.declared.fault.Failed.{Failed}
 use Rattle.avs_dev.specs.Seen.{Seen}
 use Rattle.avs_dev.proofs.Going.{all_then, all_same, all_err}
-use Rattle.avs_over.specs.Over.{OverSet, slots}
+use Rattle.avs_over.specs.Over.{OverSet}
 use Rattle.avs_compact.specs.Entries.{state_by, slot_by}
 use Rattle.avs_compact.specs.CompactSet.{CompactSet, entry_of, disk_entry, chunks_of, need_of, room_of}
-use Rattle.avs_compact.specs.Disks.{Master, Shadow, Bitmap, Over, disk_at}
-use Rattle.avs_compact.specs.Calls.{AreThere, IsKnown}
-use Rattle.avs_compact.specs.Places.{ArePlaced, OnlyTakes, KeepsOver, SetsEntry, AreSame, Splits, SplitsFirst}
-use Rattle.avs_compact.specs.Keeping.{IsPlaced, KeepsSlots, KeepsSet, CountsSlots, Settles, DoesNothing}
+use Rattle.avs_compact.specs.Disks.{Master, Bitmap, Over, disk_at}
+use Rattle.avs_compact.specs.Calls.{IsKnown}
+use Rattle.avs_compact.specs.Places.{ArePlaced, OnlyTakes, KeepsOver, SetsEntry, AreSame, Splits}
+use Rattle.avs_compact.specs.Keeping.{IsPlaced, KeepsBlocks, KeepsSlots, KeepsSet, CountsSlots, Settles, DoesNothing}
 use Rattle.avs_compact.specs.Saving.{SavesOne, SavesAll, lacking, need_with}
 use Rattle.avs_compact.proofs.Counts.{count_from, cond_is, cond_not}
 use Rattle.avs_compact.proofs.Placed.{stays, placed_same, only_takes_none, only_takes_then}
@@ -23,6 +22,18 @@ use Rattle.avs_compact.proofs.Settled.{zero_state}
 pub slots_nothing : (s : CompactSet) (o : OverSet) → KeepsSlots s o s o
 slots_nothing s o = record { there = λ t. t; placed = λ p. p; own_first = λ u. u; owners = only_takes_none s.set o.owners }
 
+pub blocks_nothing : (s : CompactSet) (o : OverSet) (m : Seen) → IsKnown s o → IsPlaced s o → KeepsBlocks s o m.image s o m.image
+blocks_nothing s o m kn p = record {
+  shadow = λ i lt. refl;
+  master = λ i lt. refl;
+  only = λ i lt ne. refl;
+  alike = λ a. a;
+  back = λ c lt e. e;
+  splits = λ c lt e. e;
+  slots = λ c lt some. (some, refl);
+  placed = placed_same (entry_of s) (disk_entry s) s.own (chunks_of s) s.set o.owners o.owners (λ c lt. sym (kn.step.each c lt)) (only_takes_none s.set o.owners) p;
+}
+
 pub keeps_nothing : {T E : Type 0} (s : CompactSet) (o : OverSet) (m : Seen) (x : T) → KeepsSet {E = E} s o m (Ok x) s o m
 keeps_nothing s o m x = record {
   shape = record { set = refl; own = refl; blocks = refl; there = refl; first = refl; len = refl; live_b = refl; next = refl };
@@ -30,16 +41,7 @@ keeps_nothing s o m x = record {
   bitmap = λ told. record { label = refl; staged = refl; clean = λ zeros. zeros };
   slots = slots_nothing s o;
   over = λ p told. record { label = refl; slots = λ k i lt ne. refl };
-  blocks = λ kn p td. record {
-    shadow = λ i lt. refl;
-    master = λ i lt. refl;
-    only = λ i lt ne. refl;
-    alike = λ a. a;
-    back = λ c lt e. e;
-    splits = λ c lt e. e;
-    slots = λ c lt some. (some, refl);
-    placed = placed_same (entry_of s) (disk_entry s) s.own (chunks_of s) s.set o.owners o.owners (λ c lt. sym (kn.step.each c lt)) (only_takes_none s.set o.owners) p;
-  };
+  blocks = λ kn p td. blocks_nothing s o m kn p;
 }
 
 pub counts_nothing : (s : CompactSet) (o : OverSet) → CountsSlots s o 0 s o
@@ -62,16 +64,30 @@ over_then set set' o o1 o2 by takes p q = record {
       ∙ p.slots k i lt (λ is. ne (stays set' o1.owners o2.owners k takes (is ∙ ap (λ (j : ℕ). Some j) (sym by)) ∙ ap (λ (j : ℕ). Some j) by));
 }
 
+pub blocks_then : (a b d : CompactSet) (o o1 o2 : OverSet) (m m1 m2 : Seen) → b.set ≡ a.set → b.own ≡ a.own → b.blocks ≡ a.blocks → KeepsBlocks a o m.image b o1 m1.image → KeepsBlocks b o1 m1.image d o2 m2.image → KeepsBlocks a o m.image d o2 m2.image
+blocks_then a b d o o1 o2 m m1 m2 set own blocks f h = record {
+  shadow = λ i lt. h.shadow i (at_b i lt) ∙ f.shadow i lt;
+  master = λ i lt. h.master i (at_b i lt) ∙ f.master i lt;
+  only = λ i lt ne. h.only i (at_b i lt) (λ e. ne (f.back (i / 64) (omega (arith, lt)) e)) ∙ f.only i lt ne;
+  alike = λ al. h.alike (f.alike al);
+  back = λ c lt e. f.back c lt (h.back c (chunk_b c lt) e);
+  splits = λ c lt e. h.splits c (chunk_b c lt) (f.splits c lt e);
+  slots = λ c lt some. (let k = f.slots c lt some in let l = h.slots c (chunk_b c lt) k.0 in (l.0, l.1 ∙ k.1));
+  placed = subst (λ (n : ℕ). ArePlaced (disk_entry d) n (chunks_of a) a.set o2.owners) own
+      (subst (λ (n : ℕ). ArePlaced (disk_entry d) b.own n a.set o2.owners) count_b
+      (subst (λ (n : ℕ). ArePlaced (disk_entry d) b.own (chunks_of b) n o2.owners) set h.placed));
+}
+  where
+    at_b : (i : ℕ) → i < a.blocks → i < b.blocks
+    at_b i lt = omega (arith, lt, blocks)
+
+    chunk_b : (c : ℕ) → c < chunks_of a → c < chunks_of b
+    chunk_b c lt = omega (arith, lt, blocks)
+
+    count_b : chunks_of b ≡ chunks_of a
+    count_b = ap (λ (n : ℕ). (n + 63) / 64) blocks
+
 module _ (a b d : CompactSet) (o o1 o2 : OverSet) (m m1 m2 : Seen) {T E T' E' : Type 0} (x : T') (r : Result T E) (p : KeepsSet {E = E'} a o m (Ok x) b o1 m1) (q : KeepsSet b o1 m1 r d o2 m2) (known : IsKnown a o → IsKnown b o1) where
-  at_b : (i : ℕ) → i < a.blocks → i < b.blocks
-  at_b i lt = omega (arith, lt, p.shape.blocks)
-
-  chunk_b : (c : ℕ) → c < chunks_of a → c < chunks_of b
-  chunk_b c lt = omega (arith, lt, p.shape.blocks)
-
-  count_b : chunks_of b ≡ chunks_of a
-  count_b = ap (λ (n : ℕ). (n + 63) / 64) p.shape.blocks
-
   pub keeps_then : KeepsSet a o m r d o2 m2
   keeps_then = record {
     shape = record {
@@ -91,21 +107,7 @@ module _ (a b d : CompactSet) (o o1 o2 : OverSet) (m m1 m2 : Seen) {T E T' E' : 
         record { label = h.label ∙ f.label; staged = h.staged ∙ f.staged; clean = λ zeros. h.clean (f.clean zeros) };
     slots = slots_then a b d o o1 o2 p.shape.set p.slots q.slots;
     over = λ placed told. over_then a.set b.set o o1 o2 p.shape.set q.slots.owners (p.over placed told) (q.over (p.slots.placed placed) ((p.goes.lasts Over).told told));
-    blocks = λ kn placed td.
-        let f = p.blocks kn placed td in
-        let h = q.blocks (known kn) (p.slots.placed placed) ((p.goes.lasts Master).told td) in
-        record {
-          shadow = λ i lt. h.shadow i (at_b i lt) ∙ f.shadow i lt;
-          master = λ i lt. h.master i (at_b i lt) ∙ f.master i lt;
-          only = λ i lt ne. h.only i (at_b i lt) (λ e. ne (f.back (i / 64) (omega (arith, lt)) e)) ∙ f.only i lt ne;
-          alike = λ al. h.alike (f.alike al);
-          back = λ c lt e. f.back c lt (h.back c (chunk_b c lt) e);
-          splits = λ c lt e. h.splits c (chunk_b c lt) (f.splits c lt e);
-          slots = λ c lt some. (let k = f.slots c lt some in let l = h.slots c (chunk_b c lt) k.0 in (l.0, l.1 ∙ k.1));
-          placed = subst (λ (n : ℕ). ArePlaced (disk_entry d) n (chunks_of a) a.set o2.owners) p.shape.own
-              (subst (λ (n : ℕ). ArePlaced (disk_entry d) b.own n a.set o2.owners) count_b
-              (subst (λ (n : ℕ). ArePlaced (disk_entry d) b.own (chunks_of b) n o2.owners) p.shape.set h.placed));
-        };
+    blocks = λ kn placed td. blocks_then a b d o o1 o2 m m1 m2 p.shape.set p.shape.own p.shape.blocks (p.blocks kn placed td) (q.blocks (known kn) (p.slots.placed placed) ((p.goes.lasts Master).told td));
   }
 
 pub counts_then : (a b d : CompactSet) (o o1 o2 : OverSet) (v w : ℕ) → CountsSlots a o v b o1 → CountsSlots b o1 w d o2 → CountsSlots a o (v + w) d o2

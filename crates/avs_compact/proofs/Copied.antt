@@ -2,7 +2,7 @@
 use Rattle.std.proofs.Common.{◌≡◌, ◌≢◌, ◌⊎◌, inl, inr, ℕ, ◌+◌, ◌-◌, ◌*◌, ◌/◌, ◌<◌, ◌≤◌, Bool, cond, List, length, Result, Ok, Err, IsOk, OnOk, OnErr, refl, sym, ◌∙◌, ap, subst, arith}
 use Rattle.std.proofs.lemmas.Bool.{cases_lt, cases_eq, false≢true, lt-ltb, le-ltb}
 use Rattle.std.proofs.lemmas.Result.{on_ok_weaker, on_err_weaker}
-use Rattle.avs_seg.specs.Image.{Image, Block, block_at, range, blocks_of, put, IsMix, ChangesWithin}
+use Rattle.avs_seg.specs.Image.{Image, Block, block_at, blocks_of, put, IsMix, ChangesWithin}
 use Rattle.avs_seg.proofs.Blocks.{same_place}
 use Rattle.avs_seg.proofs.Bytes.{length-blocks_of}
 use Rattle.avs_seg.proofs.Changes.{ChangesWithin-same}
@@ -11,8 +11,8 @@ use Rattle.avs_seg.proofs.Ranges.{block_at-range}
 use Rattle.avs_dev.specs.Seen.{Seen, IsTold, Lasts, Reads, Writes}
 use Rattle.avs_dev.specs.Devices.{AllGoOn}
 use Rattle.avs_dev.proofs.Going.{lasts_same, goes_err, all_then, all_err, all_same}
-use Rattle.avs_over.specs.Over.{OverSet, ReadsSlot, WritesSlot, slot_from}
-use Rattle.avs_compact.specs.Entries.{on_shadow, state_by, slot_by}
+use Rattle.avs_over.specs.Over.{OverSet, slot_from}
+use Rattle.avs_compact.specs.Entries.{state_by, slot_by}
 use Rattle.avs_compact.specs.CompactSet.{in_slot}
 use Rattle.avs_compact.specs.Disks.{CompactDisk, four}
 use Rattle.avs_compact.specs.Calls.{ReadsOne}

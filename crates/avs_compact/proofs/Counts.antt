@@ -59,6 +59,11 @@ count_from p a (suc n) =
     let after = one_more (p a) a (filter p (range_with_len (a + 1) (suc n))) in
     omega (arith, rest, before, after)
 
+pub count_on : (p : ℕ → Bool) (a n : ℕ) → length (filter p (range_with_len a (n + 1))) ≡ length (filter p (range_with_len a n)) + cond (p (a + n)) 1 0
+count_on p a n =
+    let next : n + 1 ≡ suc n = omega arith in
+    ap (λ (k : ℕ). length (filter p (range_with_len a k))) next ∙ count_from p a n
+
 pub count_more : (p : ℕ → Bool) (n : ℕ) → length (filter p (range_with_len 0 (n + 1))) ≡ length (filter p (range_with_len 0 n)) + cond (p n) 1 0
 count_more p n =
     let next : n + 1 ≡ suc n = omega arith in

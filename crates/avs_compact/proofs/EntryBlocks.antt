@@ -9,7 +9,7 @@ use Rattle.avs_dev.proofs.Going.{goes_ok, goes_err}
 use Rattle.avs_flip.specs.Areas.{Areas, live, live_from}
 use Rattle.avs_flip.specs.Changes.{PutsLive}
 use Rattle.avs_compact.specs.Entries.{entry_in, entry_on}
-use Rattle.avs_compact.specs.Steps.{HasEntries, PutsEntry, WritesLive, WritesEntry}
+use Rattle.avs_compact.specs.Steps.{HasEntries, PutsEntry, WritesEntry}
 use Rattle.avs_compact.proofs.EntryBytes.{entry_of_block}
 
 has_entries : (memory : List ℕ) (old : Image) (block start : List ℕ) (c e : ℕ) → c / 128 < length old

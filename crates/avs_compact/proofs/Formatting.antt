@@ -196,7 +196,7 @@ master_is_master n own area s o m len all = same_images _ _ (length-tabulate _ _
 
 module _ (set : ℕ) (shadow bitmap e : Seen) (blocks : ℕ) (memory next : List ℕ) (small : blocks < 2 ^ 32) (room : Fits bitmap.size blocks) (zeros : memory ≡ replicate (512 * area_len (seg_count blocks)) 0) where
   abbrev pub made : CompactSet
-  made = record { set = set; own = own_slots shadow.size; shadow = Some shadow; areas = areas_on e blocks false; memory = memory; next = next; blocks = blocks }
+  made = record { set = set; own = own_slots shadow.size; shadow = Some shadow; areas = areas_on e blocks false; memory = memory; next = next; blocks = blocks; low = 0; ahead = 0 }
 
   module _ (image : e.image ≡ put bitmap.image 0 (formatted blocks)) (told : IsTold bitmap) where
     at_formatted : (i : ℕ) → i < blocks_for (seg_count blocks) → block_at e.image i ≡ block_at (formatted blocks) i
@@ -247,12 +247,12 @@ pub Loads-found : (set own : ℕ) (X : Option Seen) (bitmap e : Seen) (blocks : 
     → (IsTold bitmap → IsLabel (block_at bitmap.image 0) (compact_label blocks))
     → (IsTold bitmap → HasArea (live (areas_on bitmap blocks live_b)) (seg_count blocks) memory)
     → AreEntries (entry_in memory) own (seg_count blocks)
-    → new ≡ record { set = set; own = own; shadow = X; areas = areas_on e blocks live_b; memory = memory; next = next; blocks = blocks }
+    → new ≡ record { set = set; own = own; shadow = X; areas = areas_on e blocks live_b; memory = memory; next = next; blocks = blocks; low = 0; ahead = 0 }
     → Loads set X bitmap blocks live_b new
 Loads-found set own X bitmap e blocks live_b memory next new own_is room same label area entries new_is =
-    let is : new ≡ record { set = set; own = own_of X; shadow = X; areas = areas_on bitmap blocks live_b; memory = memory; next = next; blocks = blocks } =
-    new_is ∙ ap (λ (d : Seen). record { set = set; own = own; shadow = X; areas = areas_on d blocks live_b; memory = memory; next = next; blocks = blocks }) same
-    ∙ ap (λ (n : ℕ). record { set = set; own = n; shadow = X; areas = areas_on bitmap blocks live_b; memory = memory; next = next; blocks = blocks }) own_is in
+    let is : new ≡ record { set = set; own = own_of X; shadow = X; areas = areas_on bitmap blocks live_b; memory = memory; next = next; blocks = blocks; low = 0; ahead = 0 } =
+    new_is ∙ ap (λ (d : Seen). record { set = set; own = own; shadow = X; areas = areas_on d blocks live_b; memory = memory; next = next; blocks = blocks; low = 0; ahead = 0 }) same
+    ∙ ap (λ (n : ℕ). record { set = set; own = n; shadow = X; areas = areas_on bitmap blocks live_b; memory = memory; next = next; blocks = blocks; low = 0; ahead = 0 }) own_is in
     subst (λ (s : CompactSet). Loads set X bitmap blocks live_b s) (sym is) (record {
       is = refl;
       fits = room;

@@ -1,6 +1,7 @@
 pub mod Counts
 pub mod EntryBytes
 pub mod Marking
+pub mod Kept
 pub mod Formatting
 pub mod Going
 pub mod Readings
@@ -16,3 +17,7 @@ pub mod Due
 pub mod Written
 pub mod WrittenAll
 pub mod Chained
+pub mod Staged
+pub mod Turned
+pub mod Ahead
+pub mod Updated

@@ -1,7 +1,7 @@
 -- Entries of which one is set: the slots that stand in them, and the table of the own slots.
-use Rattle.std.proofs.Common.{◌≡◌, ◌≢◌, ◌⊎◌, inl, inr, ℕ, zero, suc, ◌+◌, ◌-◌, ◌<◌, ◌≤◌, min, Bool, true, false, cond, eqb, filter, length, set, Option, None, Some, refl, sym, ◌∙◌, ap, subst, arith}
+use Rattle.std.proofs.Common.{◌≡◌, ◌≢◌, inl, inr, ℕ, zero, suc, ◌+◌, ◌-◌, ◌<◌, ◌≤◌, min, Bool, true, false, cond, filter, length, set, take, Option, None, Some, refl, sym, ◌∙◌, ap, subst, arith}
 use Rattle.std.specs.Prelude.{nat_lt, not}
-use Rattle.std.specs.List.{range_with_len, count_by}
+use Rattle.std.specs.List.{range_with_len}
 use Rattle.std.proofs.lemmas.Bool.{cases_lt, cases_eq, eq-eqb, lt-ltb, le-ltb}
 use Rattle.std.proofs.lemmas.List.{get_or-set_same, get_or-set_other}
 use Rattle.std.proofs.lemmas.List.Sums.{sum_by-set}
@@ -13,9 +13,10 @@ use Rattle.avs_compact.specs.Entries.{IsEntry, slot_by, state_by}
 use Rattle.avs_compact.specs.CompactSet.{is_touched, is_own, is_over, count_of}
 use Rattle.avs_compact.specs.Slots.{Marks, MarksSlot, ArePassed}
 use Rattle.avs_compact.specs.Places.{ArePlaced, OnlyTakes}
-use Rattle.avs_compact.specs.Steps.{TakesSlot}
+use Rattle.avs_compact.specs.Steps.{AreUsedFrom}
 use Rattle.avs_compact.specs.declared.marks.Counts.{Counts}
 use Rattle.avs_compact.proofs.Counts.{count_more}
+use Rattle.avs_compact.proofs.Kept.{kept_taken, kept_all}
 use Rattle.avs_compact.proofs.Marking.{own_yes, own_no, over_yes, over_no, some_none, same_some, touched_yes}
 
 -- ---- counts
@@ -253,19 +254,27 @@ module _ (f g : ℕ → ℕ) (own n chunk slot : ℕ) (one : SetsOne f g n chunk
     pub marks_new : (slot < own → owner_at T slot ≡ None) → Marks g own n T' after
     marks_new free = elim (cases_lt slot own) [ inl lt ↦ own_marks lt (free lt) | inr past ↦ over_marks past ]
 
-    -- each own slot up to the one that was taken has a chunk
-    pub passed_new : (low due : ℕ) → ArePassed f n T low due → state_by (g chunk) ≢ 3
-        → (slot < own → (k : ℕ) → k < slot → owner_at T k ≢ None) → (own ≤ slot → used_in T ≡ length T) → ArePassed g n T' (min own (slot + 1)) due
-    passed_new low due a target below full = record {
-      taken = λ k k_low k_in. elim (cases_lt slot own) [
-        | inl lt ↦ (let t_is = table_own lt in
-            elim (cases_eq k slot) [
-              | inl e ↦ (λ z. some_none (owner_at T' k) chunk z (ap (λ (t : Owners). owner_at t k) t_is ∙ ap (λ (j : ℕ). owner_at (set T slot (Some chunk)) j) e ∙ get_or-set_same T slot (Some chunk) None (omega (arith, lt, p.long))))
-              | inr ne ↦ (λ z. below lt k (omega (arith, k_low, ne)) (sym (get_or-set_other T slot k (Some chunk) None ne) ∙ ap (λ (t : Owners). owner_at t k) (sym t_is) ∙ z))
-            ])
-        | inr past ↦ (let t_is = table_over past in
-            λ z. (let k_there : k < length T = omega (arith, k_low, p.long) in
-            let f : used_in T < length T = used_some T k k_there (ap (λ (t : Owners). owner_at t k) (sym t_is) ∙ z) in omega (arith, f, full past)))
+    -- each own slot up to the one that was taken has a chunk, or is kept
+    pub passed_new : (low ahead due : ℕ) → ArePassed f n T low ahead due → state_by (g chunk) ≢ 3 → (slot < own → owner_at T slot ≡ None)
+        → (slot < own → (low ≤ slot) × ((k : ℕ) → low ≤ k → k < slot → owner_at T k ≢ None)) → (own ≤ slot → AreUsedFrom T low) → ArePassed g n T' (min own (slot + 1)) ahead due
+    passed_new low ahead due a target free least full = record {
+      inside = elim (cases_lt slot own) [
+        | inl lt ↦ (let l : length T' ≡ length T = ap length (table_own lt) ∙ length-set T slot (Some chunk) in omega (arith, l, p.long))
+        | inr past ↦ (let l : length T' ≡ length T = ap length (table_over past) in omega (arith, l, p.long))
+      ];
+      kept = elim (cases_lt slot own) [
+        | inl lt ↦
+            let e : min own (slot + 1) ≡ slot + 1 = omega (arith, lt) in
+            ap (λ (k : ℕ). used_in (take k T') + ahead) e
+            ∙ ap (λ (t : Owners). used_in (take (slot + 1) t) + ahead) (table_own lt)
+            ∙ kept_taken T low ahead a.inside a.kept slot (least lt).0 (omega (arith, lt, p.long)) (free lt) (least lt).1 chunk
+            ∙ sym e
+        | inr past ↦
+            let e : min own (slot + 1) ≡ length T = omega (arith, past, p.long) in
+            ap (λ (k : ℕ). used_in (take k T') + ahead) e
+            ∙ ap (λ (t : Owners). used_in (take (length T) t) + ahead) (table_over past)
+            ∙ kept_all T low ahead a.inside a.kept (full past)
+            ∙ sym e
       ];
       settled = λ c c_low lt. elim (cases_eq c chunk) [
         | inl e ↦ (λ z. target (ap (λ (k : ℕ). state_by (g k)) (sym e) ∙ z))
@@ -273,9 +282,10 @@ module _ (f g : ℕ → ℕ) (own n chunk slot : ℕ) (one : SetsOne f g n chunk
       ];
     }
 
-pub passed_old : (f g : ℕ → ℕ) (n chunk slot : ℕ) (T : Owners) (low due : ℕ) → SetsOne f g n chunk slot → state_by (g chunk) ≢ 3 → ArePassed f n T low due → ArePassed g n T low due
-passed_old f g n chunk slot T low due one target a = record {
-  taken = a.taken;
+pub passed_old : (f g : ℕ → ℕ) (n chunk slot : ℕ) (T : Owners) (low ahead due : ℕ) → SetsOne f g n chunk slot → state_by (g chunk) ≢ 3 → ArePassed f n T low ahead due → ArePassed g n T low ahead due
+passed_old f g n chunk slot T low ahead due one target a = record {
+  inside = a.inside;
+  kept = a.kept;
   settled = λ c c_low lt. elim (cases_eq c chunk) [
     | inl e ↦ (λ z. target (ap (λ (k : ℕ). state_by (g k)) (sym e) ∙ z))
     | inr ne ↦ (λ z. a.settled c c_low lt (ap state_by (sym (one.others c lt ne)) ∙ z))

@@ -1,5 +1,5 @@
 -- A chunk of a set is settled: the copy, and then the entry.
-use Rattle.std.proofs.Common.{◌≡◌, ◌≢◌, ◌⊎◌, inl, inr, ℕ, ◌+◌, ◌-◌, ◌*◌, ◌/◌, ◌%◌, ◌^◌, ◌<◌, ◌≤◌, Bool, cond, eqb, List, length, Option, Some, is_some, true, false, Result, Ok, Err, OnOk, OnErr, ◌∙◌, sym, refl, ap, subst, arith}
+use Rattle.std.proofs.Common.{◌≡◌, ◌≢◌, ◌⊎◌, inl, inr, ℕ, ◌+◌, ◌-◌, ◌*◌, ◌/◌, ◌%◌, ◌<◌, ◌≤◌, Bool, cond, eqb, List, Option, Some, is_some, true, false, Result, Ok, Err, OnOk, OnErr, ◌∙◌, sym, refl, ap, subst, arith}
 use Rattle.std.proofs.lemmas.Bool.{cases_lt, cases_eq}
 use Rattle.std.proofs.lemmas.Result.{on_ok_weaker, on_err_weaker}
 use Rattle.avs_seg.specs.Image.{Image, Block, block_at, ChangesWithin}
@@ -10,20 +10,20 @@ use Rattle.avs_dev.specs.Seen.{Seen, IsTold}
 use Rattle.avs_dev.specs.Devices.{AllGoOn}
 use Rattle.avs_dev.proofs.Going.{all_then, all_err}
 use Rattle.avs_flip.specs.Areas.{Areas, live, live_from}
-use Rattle.avs_over.specs.Slots.{Owners, owner_at}
-use Rattle.avs_over.specs.Over.{OverSet, slots, slot_from}
+use Rattle.avs_over.specs.Slots.{owner_at}
+use Rattle.avs_over.specs.Over.{OverSet, slots}
 use Rattle.avs_compact.specs.Entries.{IsEntry, state_by, slot_by, entry_in, entry_on}
 use Rattle.avs_compact.specs.CompactSet.{CompactSet, disk_of, entry_of, disk_entry, chunks_of, in_slot}
 use Rattle.avs_compact.specs.Slots.{IsClean}
 use Rattle.avs_compact.specs.Disks.{Shadow, Over, four, disk_at}
-use Rattle.avs_compact.specs.Calls.{AreThere, IsKnown}
+use Rattle.avs_compact.specs.Calls.{IsKnown}
 use Rattle.avs_compact.specs.Places.{ArePlaced, OnlyTakes, KeepsOver, SetsEntry, AreSame}
-use Rattle.avs_compact.specs.Steps.{WritesEntry, WritesLive, HasEntries, PutsEntry}
+use Rattle.avs_compact.specs.Steps.{WritesEntry, HasEntries, PutsEntry}
 use Rattle.avs_compact.specs.Keeping.{IsPlaced, UsesOwnFirst, IsAlike, shadow_block, master_block, IsCleanOnDisk, KeepsBitmap, KeepsBlocks, KeepsSlots, KeepsSet, CountsSlots, Settles}
 use Rattle.avs_compact.proofs.Counts.{cond_is, cond_not}
 use Rattle.avs_compact.proofs.Going.{bitmap_goes}
 use Rattle.avs_compact.proofs.Copied.{Copied}
-use Rattle.avs_compact.proofs.Placed.{SetsOne, IsApart, placed_same, placed_one, stays}
+use Rattle.avs_compact.proofs.Placed.{SetsOne, IsApart, placed_same, placed_one}
 
 -- ---- small facts
 
@@ -33,10 +33,10 @@ outside chunk n i ne = elim (cases_lt i (64 * chunk)) [
   | inr high ↦ inr (omega (arith, high, ne))
 ]
 
-place_is : (chunk i : ℕ) → i / 64 ≡ chunk → 64 * chunk + i % 64 ≡ i
+pub place_is : (chunk i : ℕ) → i / 64 ≡ chunk → 64 * chunk + i % 64 ≡ i
 place_is chunk i is = omega (arith, is)
 
-place_in : (chunk n i : ℕ) → i / 64 ≡ chunk → i < n → i % 64 < seg_len chunk n
+pub place_in : (chunk n i : ℕ) → i / 64 ≡ chunk → i < n → i % 64 < seg_len chunk n
 place_in chunk n i is lt = omega (arith, is, lt)
 
 below : (i : ℕ) → i % 64 < 64
@@ -80,13 +80,13 @@ target_some n (inr e) = (λ f. omega (arith, e, f), λ f. omega (arith, e, f))
 
 -- ---- block by block: the entries on the disk stay, or that of one chunk is set
 
-module _ (s : CompactSet) (X : Option Seen) (a' : Areas) (M' : List ℕ) (o o' : OverSet) (m m' : Seen) (chunk target slot : ℕ) (may : Settling s chunk target slot)
+module _ (s : CompactSet) (X : Option Seen) (a' : Areas) (M' N : List ℕ) (L A : ℕ) (o o' : OverSet) (m m' : Seen) (chunk target slot : ℕ) (may : Settling s chunk target slot)
     (known : (c : ℕ) → c < chunks_of s → entry_of s c ≡ disk_entry s c) (free : IsApart (entry_of s) (chunks_of s) chunk slot)
     {T E : Type 0} (r : Result T E) (cp : Copied s.own (state_by (entry_of s chunk)) m (disk_of s.shadow) o.disk slot (64 * chunk) (seg_len chunk s.blocks) r m' (disk_of X) o'.disk)
     (told : IsTold m) (told_s : IsTold (disk_of s.shadow)) (told_o : IsTold o.disk) (takes : OnlyTakes s.set o.owners o'.owners) (placed : IsPlaced s o)
     (mine : s.own ≤ slot → owner_at o'.owners (slot - s.own) ≡ Some s.set) where
   abbrev pub after : CompactSet
-  after = record s { shadow = X; areas = a'; memory = M' }
+  after = record s { shadow = X; areas = a'; memory = M'; next = N; low = L; ahead = A }
 
   abbrev old_slot : ℕ → ℕ → Block
   old_slot k i = in_slot s.own (disk_of s.shadow).image o.disk.image k i
@@ -301,8 +301,8 @@ module _ (s : CompactSet) (a' : Areas) (chunk target slot entry : ℕ) (is : IsN
 module _ (s : CompactSet) (X : Option Seen) (still : is_some X ≡ is_some s.shadow) (o o' : OverSet) (m m' : Seen) (chunk target slot entry : ℕ) (may : Settling s chunk target slot)
     (free : IsPlaced s o → IsApart (entry_of s) (chunks_of s) chunk slot) (takes : OnlyTakes s.set o.owners o'.owners) (mine : IsPlaced s o → s.own ≤ slot → owner_at o'.owners (slot - s.own) ≡ Some s.set)
     {T E : Type 0} (r : Result T E) (cp : Copied s.own (state_by (entry_of s chunk)) m (disk_of s.shadow) o.disk slot (64 * chunk) (seg_len chunk s.blocks) r m' (disk_of X) o'.disk) where
-  same_slots : (a' : Areas) (M' : List ℕ) → M' ≡ s.memory → KeepsSlots s o (record s { shadow = X; areas = a'; memory = M' }) o'
-  same_slots a' M' is = record {
+  pub same_slots : (a' : Areas) (M' : List ℕ) (L : ℕ) → M' ≡ s.memory → KeepsSlots s o (record s { shadow = X; areas = a'; memory = M'; low = L }) o'
+  same_slots a' M' L is = record {
     there = λ p. record {
       each = λ c lt some past.
           let e : entry_in M' c ≡ entry_of s c = ap (λ (l : List ℕ). entry_in l c) is in
@@ -311,11 +311,11 @@ module _ (s : CompactSet) (X : Option Seen) (still : is_some X ≡ is_some s.sha
           omega (arith, low, k, takes.long);
     };
     placed = λ p. placed_same (entry_of s) (λ c. entry_in M' c) s.own (chunks_of s) s.set o.owners o'.owners (λ c lt. ap (λ (l : List ℕ). entry_in l c) is) takes p;
-    own_first = λ u. subst (λ (l : List ℕ). UsesOwnFirst (record s { shadow = X; areas = a'; memory = l })) (sym is) u;
+    own_first = λ u. subst (λ (l : List ℕ). UsesOwnFirst (record s { shadow = X; areas = a'; memory = l; low = L })) (sym is) u;
     owners = takes;
   }
 
-  keeps_over : IsPlaced s o → IsTold o.disk → KeepsOver s.set o o'
+  pub keeps_over : IsPlaced s o → IsTold o.disk → KeepsOver s.set o o'
   keeps_over placed told = record {
     label = (cp.only told).label;
     slots = λ k i lt ne. (cp.only told).others k i lt (λ e.
@@ -332,9 +332,9 @@ module _ (s : CompactSet) (X : Option Seen) (still : is_some X ≡ is_some s.sha
           shape = record { set = refl; own = refl; blocks = refl; there = still; first = refl; len = refl; live_b = refl; next = refl };
           goes = all_err (disk_at s o m) (disk_at (record s { shadow = X }) o' m') e e' go;
           bitmap = λ told. record { label = refl; staged = refl; clean = λ zeros. record { each = zeros.each } };
-          slots = same_slots s.areas s.memory refl;
+          slots = same_slots s.areas s.memory s.low refl;
           over = keeps_over;
-          blocks = λ kn placed td. same_entries s X s.areas s.memory o o' m m' chunk target slot may kn.step.each (free placed) r cp td kn.shadow kn.over takes placed (mine placed) (record { each = λ c _. refl });
+          blocks = λ kn placed td. same_entries s X s.areas s.memory s.next s.low s.ahead o o' m m' chunk target slot may kn.step.each (free placed) r cp td kn.shadow kn.over takes placed (mine placed) (record { each = λ c _. refl });
         };
         done = λ kn. tt;
         stopped = λ kn. inl (record { each = λ c _. refl });
@@ -345,11 +345,11 @@ module _ (s : CompactSet) (X : Option Seen) (still : is_some X ≡ is_some s.sha
       }
 
   module _ (is_new : IsNewEntry entry target slot) (clean : IsClean s.memory (chunks_of s)) (first : s.areas.first ≡ 1) (room : s.own ≤ slot → slot - s.own < slots o')
-      (a' : Areas) (M' : List ℕ) (x : T) (copied : r ≡ Ok x) {V H : Type 0} (q : Result V H) (p : WritesEntry s.areas s.memory chunk entry q a' M')
+      (a' : Areas) (M' : List ℕ) (L : ℕ) (x : T) (copied : r ≡ Ok x) {V H : Type 0} (q : Result V H) (p : WritesEntry s.areas s.memory chunk entry q a' M')
       (counted : SetsOne (entry_of s) (λ c. entry_in M' c) (chunks_of s) chunk slot
-      → CountsSlots s o (cond (eqb (entry_of s chunk) 0) 1 0) (record s { shadow = X; areas = a'; memory = M' }) o' × (UsesOwnFirst s → UsesOwnFirst (record s { shadow = X; areas = a'; memory = M' }))) where
+      → CountsSlots s o (cond (eqb (entry_of s chunk) 0) 1 0) (record s { shadow = X; areas = a'; memory = M'; low = L }) o' × (UsesOwnFirst s → UsesOwnFirst (record s { shadow = X; areas = a'; memory = M'; low = L }))) where
     abbrev pub settled : CompactSet
-    settled = record s { shadow = X; areas = a'; memory = M' }
+    settled = record s { shadow = X; areas = a'; memory = M'; low = L }
 
     goes : AllGoOn (disk_at s o m) q (disk_at settled o' m')
     goes = all_then (disk_at s o m) (four m' (disk_of X) s.areas.disk o'.disk) (disk_at settled o' m') x q
@@ -386,7 +386,7 @@ module _ (s : CompactSet) (X : Option Seen) (still : is_some X ≡ is_some s.sha
 
     slots_now : (z : Result V H) → OnOk z (PutsEntry s.memory M' chunk entry) → OnErr z (M' ≡ s.memory) → KeepsSlots s o settled o'
     slots_now (Ok y) set unset = slots_one set
-    slots_now (Err e) set unset = same_slots a' M' unset
+    slots_now (Err e) set unset = same_slots a' M' L unset
 
     sets_disk : IsKnown s o → HasEntries s.memory (live s.areas) (live a') chunk entry → SetsEntry (disk_entry s) (λ c. entry_on (live a') c) (chunks_of s) chunk target
     sets_disk kn has = let one = disk_one s a' chunk target slot entry is_new may.there clean first kn.step.each has in record {
@@ -399,12 +399,12 @@ module _ (s : CompactSet) (X : Option Seen) (still : is_some X ≡ is_some s.sha
     keeps = record {
       shape = record { set = refl; own = refl; blocks = refl; there = still; first = ap (λ (a : Areas). a.first) p.place; len = ap (λ (a : Areas). a.len) p.place; live_b = ap (λ (a : Areas). a.live_b) p.place; next = refl };
       goes = goes;
-      bitmap = λ told. let kept = keeps_bitmap s a' chunk target slot entry is_new may.there clean first X M' q p told in record { label = kept.label; staged = kept.staged; clean = kept.clean };
+      bitmap = λ told. let kept = keeps_bitmap s a' chunk target slot entry is_new may.there clean first X M' q p told in record { label = kept.label; staged = kept.staged; clean = λ zeros. record { each = (kept.clean zeros).each } };
       slots = slots_now q p.set p.unset;
       over = keeps_over;
       blocks = λ kn placed td. elim (either q (p.at_exit kn.bitmap).done (p.at_exit kn.bitmap).failed) [
-        | inl same ↦ same_entries s X a' M' o o' m m' chunk target slot may kn.step.each (free placed) r cp td kn.shadow kn.over takes placed (mine placed) (record { each = λ c _. ap (λ (img : Image). entry_on img c) same })
-        | inr has ↦ one_entry s X a' M' o o' m m' chunk target slot may kn.step.each (free placed) r cp td kn.shadow kn.over takes placed (mine placed)
+        | inl same ↦ same_entries s X a' M' s.next L s.ahead o o' m m' chunk target slot may kn.step.each (free placed) r cp td kn.shadow kn.over takes placed (mine placed) (record { each = λ c _. ap (λ (img : Image). entry_on img c) same })
+        | inr has ↦ one_entry s X a' M' s.next L s.ahead o o' m m' chunk target slot may kn.step.each (free placed) r cp td kn.shadow kn.over takes placed (mine placed)
             (disk_one s a' chunk target slot entry is_new may.there clean first kn.step.each has) (ap state_by has.now ∙ is_new.state) x copied
       ];
     }

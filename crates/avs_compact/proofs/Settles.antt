@@ -1,13 +1,12 @@
 -- A chunk is settled: in a slot that it takes, and in the one that it has.
-use Rattle.std.proofs.Common.{◌≡◌, ◌≢◌, ◌⊎◌, inl, inr, ℕ, ◌+◌, ◌-◌, ◌*◌, ◌/◌, ◌^◌, ◌<◌, ◌≤◌, Bool, List, length, Option, Some, None, is_some, Result, Ok, Err, IsTrue, ◌∙◌, sym, refl, ap, subst, arith}
-use Rattle.std.proofs.lemmas.Bool.{cases_eq, false≢true}
+use Rattle.std.proofs.Common.{◌≡◌, inl, ℕ, ◌+◌, ◌-◌, ◌*◌, ◌^◌, ◌<◌, ◌≤◌, List, length, take, Option, Some, is_some, Result, Ok, Err, ◌∙◌, sym, refl, ap, subst, arith}
 use Rattle.avs_seg.specs.Segment.{seg_len}
 use Rattle.avs_dev.specs.Seen.{Seen}
 use Rattle.avs_dev.proofs.Going.{all_err}
 use Rattle.avs_flip.specs.Areas.{Areas}
-use Rattle.avs_over.specs.Slots.{Owners, owner_at}
+use Rattle.avs_over.specs.Slots.{Owners, owner_at, used_in}
 use Rattle.avs_over.specs.Over.{OverSet, slots}
-use Rattle.avs_compact.specs.Entries.{IsEntry, state_by, slot_by, entry_for, entry_in}
+use Rattle.avs_compact.specs.Entries.{IsEntry, state_by, slot_by, entry_for}
 use Rattle.avs_compact.specs.CompactSet.{CompactSet, disk_of, entry_of, chunks_of}
 use Rattle.avs_compact.specs.Slots.{IsClean, Marks}
 use Rattle.avs_compact.specs.Disks.{disk_at}
@@ -23,25 +22,26 @@ use Rattle.avs_compact.proofs.SettlingNew.{new_entry, settling_new, free_slot, t
 
 -- ---- in a slot that it takes
 
-module _ (s : CompactSet) (chunk slot : ℕ) (o o1 o' : OverSet) (table : Owners) (counts : Counts) (marks : Marks (entry_of s) s.own (chunks_of s) table counts) (t : TakesSlot table s.set o (Some slot) o1)
+module _ (s : CompactSet) (chunk slot : ℕ) (o o1 o' : OverSet) (table : Owners) (counts : Counts) (marks : Marks (entry_of s) s.own (chunks_of s) table counts) (inside : s.low ≤ length table) (kept : used_in (take s.low table) + s.ahead ≡ s.low)
+    (t : TakesSlot table s.low s.set o (Some slot) o1)
     (there : chunk < chunks_of s) (none : entry_of s chunk ≡ 0) (X : Option Seen) (still : is_some X ≡ is_some s.shadow) (m m' : Seen) {T E : Type 0} (r : Result T E)
     (at len : ℕ) (at_is : at ≡ 64 * chunk) (len_is : len ≡ seg_len chunk s.blocks) (copies : CopiesIn m (disk_of s.shadow) o1 s.own slot at len r m' (disk_of X) o') where
-  owners_is : o'.owners ≡ o1.owners
+  pub owners_is : o'.owners ≡ o1.owners
   owners_is = ap (λ (z : OverSet). z.owners) copies.over
 
-  takes : OnlyTakes s.set o.owners o'.owners
-  takes = subst (λ (l : Owners). OnlyTakes s.set o.owners l) (sym owners_is) (takes_slot s chunk slot o o1 table counts marks t there none)
+  pub takes : OnlyTakes s.set o.owners o'.owners
+  takes = subst (λ (l : Owners). OnlyTakes s.set o.owners l) (sym owners_is) (takes_slot s chunk slot o o1 table counts marks inside kept t there none)
 
-  mine : s.own ≤ slot → owner_at o'.owners (slot - s.own) ≡ Some s.set
-  mine past = ap (λ (l : Owners). owner_at l (slot - s.own)) owners_is ∙ mine_slot s chunk slot o o1 table counts marks t there none past
+  pub mine : s.own ≤ slot → owner_at o'.owners (slot - s.own) ≡ Some s.set
+  mine past = ap (λ (l : Owners). owner_at l (slot - s.own)) owners_is ∙ mine_slot s chunk slot o o1 table counts marks inside kept t there none past
 
   room : s.own ≤ slot → slot - s.own < slots o'
-  room past = (let below = room_slot s chunk slot o o1 table counts marks t there none past in let k = ap length owners_is in omega (arith, below, k))
+  room past = (let below = room_slot s chunk slot o o1 table counts marks inside kept t there none past in let k = ap length owners_is in omega (arith, below, k))
 
   disk_is : o1.disk ≡ o.disk
-  disk_is = ap (λ (z : OverSet). z.disk) (disk_slot s chunk slot o o1 table counts marks t there none)
+  disk_is = ap (λ (z : OverSet). z.disk) (disk_slot s chunk slot o o1 table counts marks inside kept t there none)
 
-  cp : Copied s.own (state_by (entry_of s chunk)) m (disk_of s.shadow) o.disk slot (64 * chunk) (seg_len chunk s.blocks) r m' (disk_of X) o'.disk
+  pub cp : Copied s.own (state_by (entry_of s chunk)) m (disk_of s.shadow) o.disk slot (64 * chunk) (seg_len chunk s.blocks) r m' (disk_of X) o'.disk
   cp =
       subst (λ (k : ℕ). Copied s.own k m (disk_of s.shadow) o.disk slot (64 * chunk) (seg_len chunk s.blocks) r m' (disk_of X) o'.disk) (sym (zero_state (entry_of s chunk) none))
       (subst (λ (d : Seen). Copied s.own 0 m (disk_of s.shadow) d slot (64 * chunk) (seg_len chunk s.blocks) r m' (disk_of X) o'.disk) disk_is
@@ -50,14 +50,14 @@ module _ (s : CompactSet) (chunk slot : ℕ) (o o1 o' : OverSet) (table : Owners
       (copied_in m m' (disk_of s.shadow) (disk_of X) o1 o' s.own slot at len r copies))))
 
   pub new_fails : {U G : Type 0} (e : E) (e' : G) → r ≡ Err e → Settles {T = U} s o m chunk 2 (Err e') (record s { shadow = X }) o' m'
-  new_fails e e' is = fails_copy s X still o o' m m' chunk 2 slot 0 (settling_new s chunk slot there none marks.form) (free_slot s chunk slot o o1 table counts marks t there none) takes (λ _. mine) r cp e e' is
+  new_fails e e' is = fails_copy s X still o o' m m' chunk 2 slot 0 (settling_new s chunk slot there none marks.form) (free_slot s chunk slot o o1 table counts marks inside kept t there none) takes (λ _. mine) r cp e e' is
 
-  pub new_settles : slot < 2 ^ 30 - 1 → IsClean s.memory (chunks_of s) → s.areas.first ≡ 1 → (a' : Areas) (M' : List ℕ) (x : T) → r ≡ Ok x → {V H : Type 0} (q : Result V H) → WritesEntry s.areas s.memory chunk (entry_for 2 slot) q a' M'
-      → Settles s o m chunk 2 q (record s { shadow = X; areas = a'; memory = M' }) o' m'
-  new_settles small clean first a' M' x is q p =
-      settles s X still o o' m m' chunk 2 slot (entry_for 2 slot) (settling_new s chunk slot there none marks.form) (free_slot s chunk slot o o1 table counts marks t there none) takes (λ _. mine) r cp
-      (new_entry 2 slot (inl refl) small) clean first room a' M' x is q p
-      (λ one. counts_new s chunk slot o o1 table counts marks t there none (record s { shadow = X; areas = a'; memory = M' }) o' refl refl refl owners_is one)
+  pub new_settles : slot < 2 ^ 30 - 1 → IsClean s.memory (chunks_of s) → s.areas.first ≡ 1 → (a' : Areas) (M' : List ℕ) (L : ℕ) (x : T) → r ≡ Ok x → {V H : Type 0} (q : Result V H) → WritesEntry s.areas s.memory chunk (entry_for 2 slot) q a' M'
+      → Settles s o m chunk 2 q (record s { shadow = X; areas = a'; memory = M'; low = L }) o' m'
+  new_settles small clean first a' M' L x is q p =
+      settles s X still o o' m m' chunk 2 slot (entry_for 2 slot) (settling_new s chunk slot there none marks.form) (free_slot s chunk slot o o1 table counts marks inside kept t there none) takes (λ _. mine) r cp
+      (new_entry 2 slot (inl refl) small) clean first room a' M' L x is q p
+      (λ one. counts_new s chunk slot o o1 table counts marks inside kept t there none (record s { shadow = X; areas = a'; memory = M'; low = L }) o' refl refl refl refl owners_is one)
 
 -- the same where the error is told by another word
 pub settles_err : {T E T' E' : Type 0} (s s' : CompactSet) (o o' : OverSet) (m m' : Seen) (chunk target : ℕ) (q : Result T E) (e : E) (e' : E') → q ≡ Err e → Settles s o m chunk target q s' o' m' → Settles {T = T'} s o m chunk target (Err e') s' o' m'
@@ -121,5 +121,5 @@ module _ (s : CompactSet) (chunk target e : ℕ) (o o' : OverSet) (is : e ≡ en
       → WritesEntry s.areas s.memory chunk (entry_for target slot) q a' M' → Settles s o m chunk target q (record s { shadow = X; areas = a'; memory = M' }) o' m'
   old_settles slot slot_is small clean first a' M' x ok q p =
       settles s X still o o' m m' chunk target (slot_by (entry_of s chunk)) (entry_for target slot) (settling_old s chunk target may form) (apart_old s o chunk may.there may.slot) old_takes old_mine r old_cp
-      (subst (λ (k : ℕ). IsNewEntry (entry_for target slot) target k) slot_is (new_entry target slot may.targets small)) clean first old_room a' M' x ok q p
-      (λ one. counts_old s (record s { shadow = X; areas = a'; memory = M' }) o o' chunk (slot_by (entry_of s chunk)) refl refl refl old_owners may.slot refl one)
+      (subst (λ (k : ℕ). IsNewEntry (entry_for target slot) target k) slot_is (new_entry target slot may.targets small)) clean first old_room a' M' s.low x ok q p
+      (λ one. counts_old s (record s { shadow = X; areas = a'; memory = M' }) o o' chunk (slot_by (entry_of s chunk)) refl refl refl refl old_owners may.slot refl one)

@@ -1,18 +1,17 @@
 -- When a chunk is settled: in a slot that it takes, or in the one that it has.
-use Rattle.std.proofs.Common.{◌≡◌, ◌≢◌, ◌⊎◌, inl, inr, ℕ, ◌+◌, ◌-◌, ◌*◌, ◌/◌, ◌%◌, ◌^◌, ◌<◌, ◌≤◌, Bool, cond, eqb, length, Option, Some, None, ◌∙◌, sym, refl, ap, subst, arith}
-use Rattle.std.proofs.lemmas.Bool.{cases_lt, eq-eqb}
-use Rattle.avs_dev.specs.Seen.{Seen}
+use Rattle.std.proofs.Common.{◌≡◌, ◌≢◌, ◌⊎◌, inl, inr, ℕ, ◌+◌, ◌-◌, ◌^◌, ◌<◌, ◌≤◌, cond, eqb, length, take, Some, None, ◌∙◌, sym, refl, ap, subst, arith}
+use Rattle.std.proofs.lemmas.Bool.{cases_lt}
 use Rattle.avs_over.specs.Slots.{Owners, owner_at, used_in, given_to}
 use Rattle.avs_over.specs.Over.{OverSet, slots, used}
-use Rattle.avs_over.proofs.Giving.{used_some}
-use Rattle.avs_compact.specs.Entries.{IsEntry, state_by, slot_by, entry_for}
-use Rattle.avs_compact.specs.CompactSet.{CompactSet, entry_of, chunks_of, need_of, room_of, own_used, over_used, HasTaken, is_own, is_over, is_touched, count_of}
+use Rattle.avs_compact.specs.Entries.{IsEntry, slot_by, entry_for}
+use Rattle.avs_compact.specs.CompactSet.{CompactSet, entry_of, chunks_of, need_of, room_of, own_used, over_used, is_own, is_over, is_touched, count_of}
 use Rattle.avs_compact.specs.Slots.{Marks}
 use Rattle.avs_compact.specs.Places.{OnlyTakes}
 use Rattle.avs_compact.specs.Steps.{TakesSlot}
 use Rattle.avs_compact.specs.Keeping.{IsPlaced, UsesOwnFirst, MaySettle, CountsSlots}
 use Rattle.avs_compact.specs.declared.marks.Counts.{Counts}
 use Rattle.avs_compact.proofs.Counts.{cond_is, cond_not}
+use Rattle.avs_compact.proofs.Kept.{used_or_kept, free_behind}
 use Rattle.avs_compact.proofs.Marking.{some_none, need_is}
 use Rattle.avs_compact.proofs.Placed.{SetsOne, IsApart, only_takes_none, taken_now, taken_only, given_more, used_below, need_more, own_slot, over_slot, own_stays, over_stays}
 use Rattle.avs_compact.proofs.Settled.{Settling, IsNewEntry, zero_state}
@@ -34,8 +33,8 @@ settling_new s chunk slot there none form = record {
   form = form;
 }
 
-module _ (s : CompactSet) (chunk slot : ℕ) (o o1 : OverSet) (table : Owners) (counts : Counts) (marks : Marks (entry_of s) s.own (chunks_of s) table counts) (t : TakesSlot table s.set o (Some slot) o1)
-    (there : chunk < chunks_of s) (none : entry_of s chunk ≡ 0) where
+module _ (s : CompactSet) (chunk slot : ℕ) (o o1 : OverSet) (table : Owners) (counts : Counts) (marks : Marks (entry_of s) s.own (chunks_of s) table counts) (inside : s.low ≤ length table) (kept : used_in (take s.low table) + s.ahead ≡ s.low)
+    (t : TakesSlot table s.low s.set o (Some slot) o1) (there : chunk < chunks_of s) (none : entry_of s chunk ≡ 0) where
   in_own : slot < s.own → slot < length table
   in_own lt = omega (arith, lt, marks.long)
 
@@ -74,7 +73,7 @@ module _ (s : CompactSet) (chunk slot : ℕ) (o o1 : OverSet) (table : Owners) (
     | inr past ↦ (let e = (t.over (past_own past)).given in e ∙ ap (λ (l : Owners). record o { owners = l }) (sym (ap (λ (z : OverSet). z.owners) e)))
   ]
 
-  module _ (s' : CompactSet) (o' : OverSet) (own : s'.own ≡ s.own) (n : chunks_of s' ≡ chunks_of s) (by : s'.set ≡ s.set) (owners : o'.owners ≡ o1.owners) (one : SetsOne (entry_of s) (entry_of s') (chunks_of s) chunk slot) where
+  module _ (s' : CompactSet) (o' : OverSet) (own : s'.own ≡ s.own) (n : chunks_of s' ≡ chunks_of s) (by : s'.set ≡ s.set) (ahead : s'.ahead ≡ s.ahead) (owners : o'.owners ≡ o1.owners) (one : SetsOne (entry_of s) (entry_of s') (chunks_of s) chunk slot) where
     need_now : need_of s' ≡ need_of s + 1
     need_now = ap (λ (k : ℕ). count_of is_touched (entry_of s') k) n ∙ need_more (entry_of s) (entry_of s') s.own (chunks_of s) chunk slot one none
 
@@ -97,8 +96,8 @@ module _ (s : CompactSet) (chunk slot : ℕ) (o o1 : OverSet) (table : Owners) (
           let over_same : over_used s' ≡ over_used s = over_now ∙ c.1 in (
             record {
               need = omega (arith, need_now, one_slot);
-              room = omega (arith, over_same, u, k, own);
-              taken = λ taken. ap (λ (b : ℕ). given_to b o'.owners) by ∙ ap (λ (l : Owners). given_to s.set l) e ∙ taken ∙ sym over_same;
+              room = omega (arith, over_same, u, k, own, ahead);
+              taken = λ taken. (ap (λ (b : ℕ). given_to b o'.owners) by ∙ ap (λ (l : Owners). given_to s.set l) e ∙ taken.0 ∙ sym over_same, ahead ∙ taken.1);
             },
             λ first more. absurd (let full = first (omega (arith, more, over_same)) in
                 let some_free = used_below_table low in
@@ -113,21 +112,23 @@ module _ (s : CompactSet) (chunk slot : ℕ) (o o1 : OverSet) (table : Owners) (
           let below = used_below o o1 s.set (slot - length table) tk in (
             record {
               need = omega (arith, need_now, one_slot);
-              room = omega (arith, over_more, u, k, own, below);
-              taken = λ taken. ap (λ (b : ℕ). given_to b o'.owners) by ∙ ap (λ (l : Owners). given_to s.set l) owners ∙ given_more o o1 s.set (slot - length table) tk ∙ ap (λ (j : ℕ). j + 1) taken ∙ sym over_more;
+              room = omega (arith, over_more, u, k, own, below, ahead);
+              taken = λ taken. (ap (λ (b : ℕ). given_to b o'.owners) by ∙ ap (λ (l : Owners). given_to s.set l) owners ∙ given_more o o1 s.set (slot - length table) tk ∙ ap (λ (j : ℕ). j + 1) taken.0 ∙ sym over_more, ahead ∙ taken.1);
             },
-            λ first more. own_now ∙ c.0 ∙ (let full = t.full (past_own past) in let all : own_used s ≡ s.own = omega (arith, full, marks.in_table, marks.own_count, marks.long) in all) ∙ sym own,
+            λ first more. (let full = used_or_kept table s.low s.ahead inside kept (t.full (past_own past)) in omega (arith, own_now, c.0, full, marks.in_table, marks.own_count, marks.long, own, ahead)),
           )
     ]
       where
-        used_below_table : slot < s.own → used_in table < length table
-        used_below_table low = used_some table slot (in_own low) (t.own (in_own low)).0
+        used_below_table : slot < s.own → used_in table + s.ahead < length table
+        used_below_table low = free_behind table s.low s.ahead inside kept slot (t.least (in_own low)).0 (in_own low) (t.own (in_own low)).0
 
 -- a slot is free where the set needs fewer than it has room for
-pub slot_free : (s : CompactSet) (o o1 : OverSet) (table : Owners) (counts : Counts) → Marks (entry_of s) s.own (chunks_of s) table counts → TakesSlot table s.set o None o1 → need_of s < room_of s o → ⊥
-slot_free s o o1 table counts marks t room =
+pub slot_free : (s : CompactSet) (o o1 : OverSet) (table : Owners) (counts : Counts) → Marks (entry_of s) s.own (chunks_of s) table counts → s.low ≤ length table → used_in (take s.low table) + s.ahead ≡ s.low
+    → TakesSlot table s.low s.set o None o1 → need_of s < room_of s o → ⊥
+slot_free s o o1 table counts marks inside kept t room =
     let need = need_is s.own (entry_of s) (chunks_of s) in
-    omega (arith, room, need, t.none.0, t.none.1, marks.in_table, marks.own_count, marks.long)
+    let full = used_or_kept table s.low s.ahead inside kept t.none.0 in
+    omega (arith, room, need, full, t.none.1, marks.in_table, marks.own_count, marks.long)
 
 -- ---- the slot that it has
 
@@ -137,9 +138,9 @@ settling_old s chunk target may form = record { there = may.there; targets = may
 pub apart_old : (s : CompactSet) (o : OverSet) (chunk : ℕ) → chunk < chunks_of s → entry_of s chunk ≢ 0 → IsPlaced s o → IsApart (entry_of s) (chunks_of s) chunk (slot_by (entry_of s chunk))
 apart_old s o chunk there has placed = record { each = λ c lt ne some. placed.apart chunk c there lt (λ z. ne (sym z)) has some }
 
-pub counts_old : (s s' : CompactSet) (o o' : OverSet) (chunk slot : ℕ) → s'.own ≡ s.own → chunks_of s' ≡ chunks_of s → s'.set ≡ s.set → o'.owners ≡ o.owners → entry_of s chunk ≢ 0 → slot_by (entry_of s chunk) ≡ slot
+pub counts_old : (s s' : CompactSet) (o o' : OverSet) (chunk slot : ℕ) → s'.own ≡ s.own → chunks_of s' ≡ chunks_of s → s'.set ≡ s.set → s'.ahead ≡ s.ahead → o'.owners ≡ o.owners → entry_of s chunk ≢ 0 → slot_by (entry_of s chunk) ≡ slot
     → SetsOne (entry_of s) (entry_of s') (chunks_of s) chunk slot → CountsSlots s o (cond (eqb (entry_of s chunk) 0) 1 0) s' o' × (UsesOwnFirst s → UsesOwnFirst s')
-counts_old s s' o o' chunk slot own n by owners some is one =
+counts_old s s' o o' chunk slot own n by ahead owners some is one =
     let own_same : own_used s' ≡ own_used s = ap (λ (k : ℕ). count_of (is_own k) (entry_of s') (chunks_of s')) own ∙ ap (λ (k : ℕ). count_of (is_own s.own) (entry_of s') k) n ∙ own_stays (entry_of s) (entry_of s') s.own (chunks_of s) chunk slot one some is in
     let over_same : over_used s' ≡ over_used s = ap (λ (k : ℕ). count_of (is_over k) (entry_of s') (chunks_of s')) own ∙ ap (λ (k : ℕ). count_of (is_over s.own) (entry_of s') k) n ∙ over_stays (entry_of s) (entry_of s') s.own (chunks_of s) chunk slot one some is in
     let none : ◌≡◌ {A = ℕ} (cond (eqb (entry_of s chunk) 0) 1 0) 0 = cond_not {A = ℕ} (entry_of s chunk) 0 1 0 some in
@@ -149,8 +150,8 @@ counts_old s s' o o' chunk slot own n by owners some is one =
     let k : slots o' ≡ slots o = ap length owners in (
       record {
         need = omega (arith, need, need', own_same, over_same, none);
-        room = omega (arith, over_same, u, k, own);
-        taken = λ taken. ap (λ (b : ℕ). given_to b o'.owners) by ∙ ap (λ (l : Owners). given_to s.set l) owners ∙ taken ∙ sym over_same;
+        room = omega (arith, over_same, u, k, own, ahead);
+        taken = λ taken. (ap (λ (b : ℕ). given_to b o'.owners) by ∙ ap (λ (l : Owners). given_to s.set l) owners ∙ taken.0 ∙ sym over_same, ahead ∙ taken.1);
       },
-      λ first more. own_same ∙ first (omega (arith, more, over_same)) ∙ sym own,
+      λ first more. (let f = first (omega (arith, more, over_same)) in omega (arith, f, own_same, own, ahead)),
     )

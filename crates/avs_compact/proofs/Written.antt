@@ -1,14 +1,14 @@
 -- Blocks of the shadow that are written in the slots of their chunks.
-use Rattle.std.proofs.Common.{◌≡◌, ◌≢◌, ◌⊎◌, inl, inr, ℕ, ◌+◌, ◌-◌, ◌*◌, ◌/◌, ◌%◌, ◌<◌, ◌≤◌, Bool, cond, eqb, List, length, Option, Some, None, is_some, IsTrue, Result, Ok, Err, OnOk, OnErr, refl, sym, ◌∙◌, ap, subst, arith}
+use Rattle.std.proofs.Common.{◌≡◌, ◌≢◌, ◌⊎◌, inl, inr, ℕ, ◌+◌, ◌-◌, ◌*◌, ◌/◌, ◌%◌, ◌<◌, ◌≤◌, cond, eqb, List, length, Option, Some, None, is_some, IsTrue, Result, Ok, Err, refl, sym, ◌∙◌, ap, subst, arith}
 use Rattle.std.proofs.lemmas.Bool.{cases_lt, cases_eq, false≢true}
 use Rattle.std.proofs.lemmas.Result.{on_ok_weaker, on_err_weaker}
 use Rattle.avs_seg.specs.declared.fault.Failed.{Failed}
 use Rattle.avs_seg.specs.Image.{Image, Block, block_at, put, range, blocks_of, IsMix}
-use Rattle.avs_seg.proofs.Blocks.{block_at_past, block_at-tabulate, length-tabulate, same_images, same_place}
+use Rattle.avs_seg.proofs.Blocks.{block_at_past, block_at-tabulate, length-tabulate, same_images}
 use Rattle.avs_seg.proofs.Bytes.{length-blocks_of}
 use Rattle.avs_seg.proofs.Puts.{length-put, put_none, put_inside, put_outside}
-use Rattle.avs_seg.proofs.Mixes.{mix_more, IsMix-same}
-use Rattle.avs_seg.proofs.Ranges.{put_more, range_all, length-range}
+use Rattle.avs_seg.proofs.Mixes.{mix_more}
+use Rattle.avs_seg.proofs.Ranges.{put_more, length-range}
 use Rattle.avs_dev.specs.Seen.{Seen, IsTold}
 use Rattle.avs_dev.specs.Devices.{AllGoOn}
 use Rattle.avs_dev.proofs.Going.{all_then, all_same, all_err}
@@ -17,11 +17,11 @@ use Rattle.avs_over.specs.Slots.{Owners, owner_at}
 use Rattle.avs_over.specs.Over.{OverSet, slot_from}
 use Rattle.avs_compact.specs.Entries.{state_by, slot_by, entry_on}
 use Rattle.avs_compact.specs.CompactSet.{CompactSet, disk_of, entry_of, disk_entry, chunks_of, in_slot, shadow_by, master_by, shadow_image, master_image}
-use Rattle.avs_compact.specs.Disks.{Shadow, Over, four, disk_at}
+use Rattle.avs_compact.specs.Disks.{Shadow, Over, disk_at}
 use Rattle.avs_compact.specs.Calls.{AreThere, IsKnown}
 use Rattle.avs_compact.specs.Places.{ArePlaced, OnlyTakes, KeepsOver}
 use Rattle.avs_compact.specs.Steps.{WritesOne}
-use Rattle.avs_compact.specs.Keeping.{IsPlaced, IsAlike}
+use Rattle.avs_compact.specs.Keeping.{IsPlaced}
 use Rattle.avs_compact.specs.Writing.{AreSplit, PutsBlocks, PutsShadow}
 use Rattle.avs_compact.proofs.Counts.{cond_is, cond_not}
 use Rattle.avs_compact.proofs.Copied.{only_slot, other_slots, over_kept, slot_goes, slot_kept, slot_done, slot_failed}

@@ -1,9 +1,8 @@
 -- A write to the shadow: its chunks are saved, and then its range is written.
-use Rattle.std.proofs.Common.{◌≡◌, ◌≢◌, ◌⊎◌, inl, inr, ℕ, ◌+◌, ◌-◌, ◌*◌, ◌/◌, ◌%◌, ◌<◌, ◌≤◌, List, length, is_some, Result, Ok, Err, IfErr, OnOk, OnErr, refl, sym, ◌∙◌, ap, subst, arith}
+use Rattle.std.proofs.Common.{◌≡◌, inl, inr, ℕ, ◌+◌, ◌/◌, ◌<◌, ◌≤◌, List, length, is_some, Result, Ok, Err, refl, sym, ◌∙◌, ap, subst, arith}
 use Rattle.std.proofs.lemmas.Bool.{cases_lt}
-use Rattle.std.proofs.lemmas.Result.{on_ok_weaker, on_err_weaker}
 use Rattle.avs_seg.specs.declared.fault.Failed.{Failed as DiskFailed}
-use Rattle.avs_seg.specs.Image.{Image, block_at, put, blocks_of, IsMix}
+use Rattle.avs_seg.specs.Image.{Image, put, blocks_of, IsMix}
 use Rattle.avs_seg.specs.Segment.{first_segment, touch_count}
 use Rattle.avs_seg.proofs.Blocks.{same_images}
 use Rattle.avs_seg.proofs.Bytes.{length-blocks_of}
@@ -15,14 +14,14 @@ use Rattle.avs_flip.specs.Areas.{live}
 use Rattle.avs_over.specs.Slots.{Owners}
 use Rattle.avs_over.specs.Over.{OverSet}
 use Rattle.avs_compact.specs.declared.fault.CompactFault.{CompactFault}
-use Rattle.avs_compact.specs.declared.fault.CompactFault.TheVariants.{Offline, Failed}
+use Rattle.avs_compact.specs.declared.fault.CompactFault.TheVariants.{Failed}
 use Rattle.avs_compact.specs.CompactSet.{CompactSet, disk_of, entry_of, disk_entry, chunks_of, shadow_image, master_image, room_of}
-use Rattle.avs_compact.specs.Disks.{Master, Over, disk_at}
+use Rattle.avs_compact.specs.Disks.{Over, disk_at}
 use Rattle.avs_compact.specs.Calls.{AreThere, IsKnown}
-use Rattle.avs_compact.specs.Places.{ArePlaced, OnlyTakes, KeepsOver, Splits, SplitsFirst}
+use Rattle.avs_compact.specs.Places.{ArePlaced, OnlyTakes, Splits, SplitsFirst}
 use Rattle.avs_compact.specs.Keeping.{IsPlaced, UsesOwnFirst, KeepsBitmap, KeepsBlocks, KeepsSlots, CountsSlots}
-use Rattle.avs_compact.specs.Saving.{SavesAll, SavesRange, GoesOffline, lacking, need_with}
-use Rattle.avs_compact.specs.Writing.{AreSplit, PutsShadow, KeepsMaster, KeepsWritten, WritesAll, StopsWrite, WritesRange, WritesShadow}
+use Rattle.avs_compact.specs.Saving.{SavesAll, SavesRange, lacking, need_with}
+use Rattle.avs_compact.specs.Writing.{AreSplit, PutsShadow, KeepsWritten, WritesRange, WritesShadow}
 use Rattle.avs_compact.proofs.Placed.{only_takes_none}
 use Rattle.avs_compact.proofs.Readings.{shadow_at}
 use Rattle.avs_compact.proofs.Chained.{slots_then, over_then}

@@ -13,7 +13,8 @@ use Rattle.avs_code.specs.declared.labels.LabelUse.{LabelUse}
 use Rattle.avs_compact.specs.Entries.{on_shadow, state_by, slot_by, entry_in, entry_on}
 
 -- a set: the number by which it takes slots of an overflow volume, how many slots its shadow's disk has, that disk where it is
--- there, the areas of the entries on the bitmap's disk, the entries in memory, those that are staged, and how many blocks it has
+-- there, the areas of the entries on the bitmap's disk, the entries in memory, those that are staged, how many blocks it has, and the
+-- slots that are kept for chunks that were copied ahead: of its own ones below `low` those that no chunk has, which are so many
 pub record CompactSet : Type 0 where
   pub set : ℕ
   pub own : ℕ
@@ -22,6 +23,8 @@ pub record CompactSet : Type 0 where
   pub memory : List ℕ
   pub next : List ℕ
   pub blocks : ℕ
+  pub low : ℕ
+  pub ahead : ℕ
 
 -- a disk that is not there: it has no block and never fails
 abbrev pub absent : Seen
@@ -120,13 +123,14 @@ others_use set o = used o - given_to set o.owners
 abbrev pub room_by_rule : CompactSet → OverSet → ℕ
 room_by_rule s o = s.own + (slots o - others_use s.set o)
 
--- Of its overflow volume the set has taken as many slots as it uses. This holds where no call on the two has failed.
+-- Of its overflow volume the set has taken as many slots as it uses, and it keeps none of its own. This holds where no call on the two
+-- has failed, but while chunks are copied ahead for an update.
 abbrev pub HasTaken : CompactSet → OverSet → Type 0
-HasTaken s o = given_to s.set o.owners ≡ over_used s
+HasTaken s o = (given_to s.set o.owners ≡ over_used s) × (s.ahead ≡ 0)
 
--- the room of a set: its own slots, and of its overflow volume those that it uses and those that are free
+-- the room of a set: its own slots but those that are kept, and of its overflow volume those that it uses and those that are free
 abbrev pub room_of : CompactSet → OverSet → ℕ
-room_of s o = s.own + over_used s + (slots o - used o)
+room_of s o = s.own - s.ahead + over_used s + (slots o - used o)
 
 -- what a bitmap serves as that has the entries of a set of so many blocks
 abbrev pub compact_use : ℕ → LabelUse

@@ -1,9 +1,9 @@
 -- What each call on the contents keeps of a set, its overflow volume and its master, at both exits.
-use Rattle.std.specs.Prelude.{◌≡◌, ◌≢◌, ◌⊎◌, ℕ, ◌+◌, ◌/◌, ◌%◌, ◌<◌, ◌≤◌, ◌==◌, if◌then◌else◌, is_some, length, Result, OnOk, OnErr, IsOk}
+use Rattle.std.specs.Prelude.{◌≡◌, ◌≢◌, ◌⊎◌, ℕ, ◌+◌, ◌/◌, ◌%◌, ◌<◌, ◌≤◌, ◌==◌, if◌then◌else◌, is_some, Result, OnOk, OnErr}
 use Rattle.avs_seg.specs.Image.{Block, Image, block_at}
 use Rattle.avs_dev.specs.Seen.{Seen, IsTold}
 use Rattle.avs_dev.specs.Devices.{AllGoOn}
-use Rattle.avs_flip.specs.Areas.{live, staged}
+use Rattle.avs_flip.specs.Areas.{staged}
 use Rattle.avs_over.specs.Over.{OverSet}
 use Rattle.avs_compact.specs.Entries.{on_both, split, on_shadow, state_by, slot_by}
 use Rattle.avs_compact.specs.CompactSet.{CompactSet, disk_of, entry_of, disk_entry, chunks_of, in_slot, need_of, own_used, over_used, HasTaken, room_of}
@@ -15,9 +15,10 @@ use Rattle.avs_compact.specs.Calls.{AreThere, IsKnown}
 abbrev pub IsPlaced : CompactSet → OverSet → Type 0
 IsPlaced s o = ArePlaced (entry_of s) s.own (chunks_of s) s.set o.owners
 
--- slots of the overflow volume are used only where all of the set's own are: then it uses there what it needs beyond its own
+-- Slots of the overflow volume are used only where all of the set's own are used or kept: where none is kept, it uses there what it
+-- needs beyond its own.
 abbrev pub UsesOwnFirst : CompactSet → Type 0
-UsesOwnFirst s = 0 < over_used s → own_used s ≡ s.own
+UsesOwnFirst s = 0 < over_used s → own_used s + s.ahead ≡ s.own
 
 -- what stands in the slot of a chunk, over the images of the shadow's disk and of the overflow volume
 abbrev pub stands : CompactSet → OverSet → ℕ → Block

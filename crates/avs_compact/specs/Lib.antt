@@ -12,3 +12,5 @@ pub mod Copying
 pub mod Writing
 pub mod Making
 pub mod Arming
+pub mod Staging
+pub mod Ahead

@@ -40,7 +40,7 @@ formatted blocks = label_block (compact_label blocks) ∷ blank (2 * area_len (s
 -- A new set: the label and both areas are written, and nothing of the shadow is. No chunk has a slot, so both images are the
 -- master's.
 pub record Makes (set : ℕ) (shadow bitmap : Seen) (blocks : ℕ) (new : CompactSet) : Type 0 where
-  pub is : new ≡ record { set = set; own = own_slots shadow.size; shadow = Some shadow; areas = areas_on new.areas.disk blocks false; memory = new.memory; next = new.next; blocks = blocks }
+  pub is : new ≡ record { set = set; own = own_slots shadow.size; shadow = Some shadow; areas = areas_on new.areas.disk blocks false; memory = new.memory; next = new.next; blocks = blocks; low = 0; ahead = 0 }
   pub fits : Fits bitmap.size blocks
   pub lasts : Lasts bitmap new.areas.disk
   pub spared : IsSpared bitmap new.areas.disk
@@ -76,7 +76,7 @@ pub record IsNotLabel (block : Block) (blocks field : ℕ) : Type 0 where
 
 -- a set that is found on disks: nothing of them changes
 pub record Loads (set : ℕ) (shadow : Option Seen) (bitmap : Seen) (blocks : ℕ) (live_b : Bool) (new : CompactSet) : Type 0 where
-  pub is : new ≡ record { set = set; own = own_of shadow; shadow = shadow; areas = areas_on bitmap blocks live_b; memory = new.memory; next = new.next; blocks = blocks }
+  pub is : new ≡ record { set = set; own = own_of shadow; shadow = shadow; areas = areas_on bitmap blocks live_b; memory = new.memory; next = new.next; blocks = blocks; low = 0; ahead = 0 }
   pub fits : Fits bitmap.size blocks
   pub label : IsTold bitmap → HasLabel new
   pub entries : AreEntries (entry_of new) new.own (chunks_of new)

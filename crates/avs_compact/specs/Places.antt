@@ -1,5 +1,5 @@
 -- Which slots stand in the entries of a set, and what its calls do to the owners of an overflow volume.
-use Rattle.std.specs.Prelude.{◌≡◌, ◌≢◌, ◌⊎◌, ℕ, ◌+◌, ◌-◌, ◌<◌, ◌≤◌, length, Option, None, Some}
+use Rattle.std.specs.Prelude.{◌≡◌, ◌≢◌, ◌⊎◌, ℕ, ◌+◌, ◌-◌, ◌<◌, ◌≤◌, length, None, Some}
 use Rattle.avs_seg.specs.Image.{block_at}
 use Rattle.avs_over.specs.Slots.{Owners, owner_at}
 use Rattle.avs_over.specs.Over.{OverSet, slot_from}

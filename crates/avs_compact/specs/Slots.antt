@@ -1,5 +1,5 @@
 -- The entries of a set, and the table of its own slots that goes with them.
-use Rattle.std.specs.Prelude.{◌≡◌, ◌≢◌, ◌⊎◌, ℕ, ◌+◌, ◌*◌, ◌<◌, ◌≤◌, ◌^◌, nat_lt, true, if◌then◌else◌, List, length, Option, None, Some, slice_set}
+use Rattle.std.specs.Prelude.{◌≡◌, ◌≢◌, ◌⊎◌, ℕ, ◌+◌, ◌*◌, ◌<◌, ◌≤◌, ◌^◌, nat_lt, true, if◌then◌else◌, List, length, take, Option, None, Some, slice_set}
 use Rattle.avs_seg.specs.Segment.{seg_count}
 use Rattle.avs_dev.specs.Seen.{Seen}
 use Rattle.avs_flip.specs.Areas.{Areas}
@@ -44,9 +44,10 @@ pub record MarksOne (old : Owners) (before : Counts) (chunk entry : ℕ) (new : 
   pub own : after.own ≡ before.own + (if is_own (length old) entry then 1 else 0)
   pub over : after.over ≡ before.over + (if is_over (length old) entry then 1 else 0)
 
--- each own slot below one has a chunk, and no chunk below another one stands in its slot alone
-pub record ArePassed (entries : ℕ → ℕ) (n : ℕ) (table : Owners) (low due : ℕ) : Type 0 where
-  pub taken : (k : ℕ) → k < low → k < length table → owner_at table k ≢ None
+-- of the own slots below one all but so many have a chunk, and no chunk below another one stands in its slot alone
+pub record ArePassed (entries : ℕ → ℕ) (n : ℕ) (table : Owners) (low ahead due : ℕ) : Type 0 where
+  pub inside : low ≤ length table
+  pub kept : used_in (take low table) + ahead ≡ low
   pub settled : (c : ℕ) → c < due → c < n → state_by (entries c) ≢ on_shadow
 
 -- what stands in a table once a chunk has a slot: the slot is the chunk's where it is one of the table

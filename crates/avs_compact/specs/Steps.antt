@@ -1,22 +1,27 @@
 -- The steps of a chunk that is settled: the slot that it takes, the copy of its contents, and the write of its entry.
 use Rattle.std.specs.Prelude.{◌≡◌, ◌≢◌, ◌⊎◌, ℕ, ◌+◌, ◌-◌, ◌*◌, ◌/◌, ◌<◌, ◌≤◌, List, length, Option, None, Some, IfSome, IfNone, Result, IsOk, OnOk, OnErr}
-use Rattle.avs_seg.specs.Image.{Image, block_at, blocks_of, ChangesWithin}
+use Rattle.avs_seg.specs.Image.{Image, block_at, ChangesWithin}
 use Rattle.avs_dev.specs.Seen.{Seen, IsTold, GoesOn, Writes}
 use Rattle.avs_dev.specs.Devices.{AllGoOn}
 use Rattle.avs_flip.specs.Areas.{Areas, live, staged, live_from}
-use Rattle.avs_over.specs.Slots.{Owners, owner_at, used_in}
+use Rattle.avs_over.specs.Slots.{Owners, owner_at}
 use Rattle.avs_over.specs.Over.{OverSet, Takes, WritesSlot, slots, used, slot_from}
 use Rattle.avs_compact.specs.Entries.{on_shadow, state_by, slot_by, entry_in, entry_on}
 use Rattle.avs_compact.specs.CompactSet.{in_slot}
 use Rattle.avs_compact.specs.Disks.{four}
 
--- The next slot that a set takes: one of its own that is free, and where none is, the least free one of its overflow volume.
-pub record TakesSlot (table : Owners) (set : ℕ) (o : OverSet) (result : Option ℕ) (o_new : OverSet) : Type 0 where
+-- the slots of a table from one on are given to chunks
+pub record AreUsedFrom (table : Owners) (low : ℕ) : Type 0 where
+  pub each : (k : ℕ) → low ≤ k → k < length table → owner_at table k ≢ None
+
+-- The next slot that a set takes: the least of its own from one on that is free, and where none is, the least free one of its overflow
+-- volume.
+pub record TakesSlot (table : Owners) (low set : ℕ) (o : OverSet) (result : Option ℕ) (o_new : OverSet) : Type 0 where
   pub own : IfSome result (λ slot. slot < length table → (owner_at table slot ≡ None) × (o_new ≡ o))
-  pub below : IfSome result (λ slot. slot < length table → (k : ℕ) → k < slot → owner_at table k ≢ None)
-  pub full : IfSome result (λ slot. length table ≤ slot → used_in table ≡ length table)
+  pub least : IfSome result (λ slot. slot < length table → (low ≤ slot) × ((k : ℕ) → low ≤ k → k < slot → owner_at table k ≢ None))
+  pub full : IfSome result (λ slot. length table ≤ slot → AreUsedFrom table low)
   pub over : IfSome result (λ slot. length table ≤ slot → Takes o set (Some (slot - length table)) o_new)
-  pub none : IfNone result ((used_in table ≡ length table) × (used o ≡ slots o))
+  pub none : IfNone result (AreUsedFrom table low × (used o ≡ slots o))
 
 -- only blocks of one slot of an overflow volume change, and none where the slot is one of the set's own
 pub record OnlySlot (own slot : ℕ) (old new : Image) : Type 0 where

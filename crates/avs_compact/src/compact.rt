@@ -41,8 +41,10 @@ pub struct Compact<D: Disk> {
     // For each own slot the chunk that has it.
     pub(crate) table: Vec<Option<u32>>,
     pub(crate) counts: Counts,
-    // Each own slot below this one has a chunk.
+    // Each own slot below this one has a chunk, or is kept for one that was copied ahead.
     pub(crate) low: u32,
+    // How many of them are kept.
+    pub(crate) ahead: u32,
     // No chunk below this one stands in its slot alone.
     pub(crate) due: u32,
     pub(crate) blocks: u32,
@@ -59,11 +61,11 @@ impl<D: Disk> Model for Compact<D> {
 
     ghost Value = { CompactSet };
 
-    ghost view = { λ s. record { set = s.set; own = s.own; shadow = option_map D.seen s.shadow; areas = s.flip; memory = s.memory.items; next = s.next.items; blocks = s.blocks } };
+    ghost view = { λ s. record { set = s.set; own = s.own; shadow = option_map D.seen s.shadow; areas = s.flip; memory = s.memory.items; next = s.next.items; blocks = s.blocks; low = s.low; ahead = s.ahead } };
 
     ghost invariant = { λ s. IsKept (option_map D.seen s.shadow) s.own s.flip s.memory.items s.next.items s.buffer.items s.blocks
         × Marks (entry_in s.memory.items) s.own (seg_count s.blocks) s.table.items s.counts
-        × ArePassed (entry_in s.memory.items) (seg_count s.blocks) s.table.items s.low s.due };
+        × ArePassed (entry_in s.memory.items) (seg_count s.blocks) s.table.items s.low s.ahead s.due };
 }
 
 impl<D: Disk> Compact<D> {
@@ -149,7 +151,7 @@ impl<D: Disk> Compact<D> {
     ) -> Compact<D>
         requires kept { IsKept (option_map D.seen shadow) own (areas_on (D.seen bitmap) blocks live_b) found.room.memory.items found.room.next.items found.room.buffer.items blocks }
         requires marked { Marks (entry_in found.room.memory.items) own (seg_count blocks) found.room.table.items found.counts }
-        ensures { result ≡ record { set = set; own = own; shadow = option_map D.seen shadow; areas = areas_on (D.seen bitmap) blocks live_b; memory = found.room.memory.items; next = found.room.next.items; blocks = blocks } }
+        ensures { result ≡ record { set = set; own = own; shadow = option_map D.seen shadow; areas = areas_on (D.seen bitmap) blocks live_b; memory = found.room.memory.items; next = found.room.next.items; blocks = blocks; low = 0; ahead = 0 } }
     {
         let Found { room, counts } = found;
         let Room {
@@ -168,6 +170,7 @@ impl<D: Disk> Compact<D> {
             table,
             counts,
             low: 0,
+            ahead: 0,
             due: 0,
             blocks,
             buffer,

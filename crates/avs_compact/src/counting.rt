@@ -102,12 +102,13 @@ impl<D: Disk> Compact<D> {
         self.counts.own + self.counts.over
     }
 
-    /// How many slots the set has room for: its own, and those of its overflow volume that no other set has taken.
+    /// How many slots the set has room for: its own, and those of its overflow volume that no other set has taken. Slots
+    /// that are kept for chunks copied ahead are not among them.
     pub fn room(&self, over: &Option<Over<D>>) -> u32
         ensures is { result ≡ room_of self.now (over_of over.now) }
         ensures by_rule { HasTaken self.now (over_of over.now) → result ≡ room_by_rule self.now (over_of over.now) }
     {
-        self.own + self.counts.over + free_of(over)
+        self.own - self.ahead + self.counts.over + free_of(over)
     }
 
     /// How many chunks stand in their slots alone.

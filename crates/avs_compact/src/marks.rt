@@ -1,7 +1,7 @@
 // The table of a set's own slots, which goes with the entries of its chunks.
-ghost use Rattle.std.specs.Prelude.{◌≡◌, ◌<◌, ◌≤◌, ◌+◌, ◌-◌, ◌*◌, ◌^◌, IfOk, IfErr, None, length, replicate};
+ghost use Rattle.std.specs.Prelude.{◌≡◌, ℕ, ◌<◌, ◌≤◌, ◌+◌, ◌-◌, ◌*◌, ◌^◌, IfOk, IfErr, None, length, replicate};
 ghost use Rattle.avs_compact.specs.Entries.{entry_in, IsEntry};
-ghost use Rattle.avs_compact.specs.Slots.{Marks, MarksOne, MarksSlot, HasBadEntry, IsBadMark};
+ghost use Rattle.avs_compact.specs.Slots.{Marks, MarksOne, MarksSlot, AreEntries, HasBadEntry, IsBadMark};
 
 use crate::entries::{entry_in, has_form, slot_by};
 use avs_code::BadRecord;
@@ -27,6 +27,7 @@ fn mark_one(
     requires over { counts.over < 2 ^ 32 - 1 }
     ensures marked { IfOk result (λ after. MarksOne table.old counts chunk entry table.new after) }
     ensures bad { IfErr result (λ e. (e.0 ≡ 64) × IsBadMark table.old entry) }
+    ensures len { length table.new ≡ length table.old }
 {
     if entry == 0 {
         return Ok(counts);
@@ -63,12 +64,34 @@ pub(crate) fn mark_all(
     requires small { end < 2 ^ 31 }
     ensures marked { IfOk result (λ counts. Marks (entry_in bytes.now) (length table.old) end table.new counts) }
     ensures bad { IfErr result (λ e. (e.0 ≡ 64) × HasBadEntry (entry_in bytes.now) (length table.old) end) }
+    ensures len { length table.new ≡ length table.old }
 {
     let mut counts = Counts { own: 0, over: 0 };
     for chunk in 0..end {
         counts = mark_one(table, counts, chunk, entry_in(bytes, chunk))?;
     }
     Ok(counts)
+}
+
+/// Marks the own slots of the first entries anew. Where one breaks a rule, all are made zeros.
+pub(crate) fn mark_anew(table: &mut [Option<u32>], bytes: &mut [u8], end: u32) -> Counts
+    requires inside { 4 * end ≤ length bytes.old }
+    requires small { end < 2 ^ 31 }
+    ensures marked { Marks (entry_in bytes.new) (length table.old) end table.new result }
+    ensures long { length bytes.new ≡ length bytes.old }
+    ensures whole { AreEntries (entry_in bytes.old) (length table.old) end → bytes.new ≡ bytes.old }
+    ensures broken { HasBadEntry (entry_in bytes.old) (length table.old) end → (c : ℕ) → entry_in bytes.new c ≡ 0 }
+    ensures zeros { (c : ℕ) → entry_in bytes.old c ≡ 0 → entry_in bytes.new c ≡ 0 }
+{
+    table.fill(None);
+    match mark_all(table, bytes, end) {
+        Ok(counts) => counts,
+        Err(BadRecord(_)) => {
+            table.fill(None);
+            bytes.fill(0);
+            Counts { own: 0, over: 0 }
+        }
+    }
 }
 
 /// Marks a slot that a chunk takes, and counts it.

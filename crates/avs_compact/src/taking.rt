@@ -44,8 +44,8 @@ fn take_over<D: Disk>(over: &mut Option<Over<D>>, set: u32) -> Option<u32>
     }
 }
 
-/// Takes a slot for a set: the least one of its own that no chunk has, and where each has one, the least free one of its
-/// overflow volume.
+/// Takes a slot for a set: the least one of its own from one on that no chunk has, and where each has one, the least free
+/// one of its overflow volume.
 pub(crate) fn take_slot<D: Disk>(
     table: &[Option<u32>],
     low: u32,
@@ -53,8 +53,7 @@ pub(crate) fn take_slot<D: Disk>(
     over: &mut Option<Over<D>>,
 ) -> Option<u32>
     requires few { length table.now < 2 ^ 26 }
-    requires taken { (k : ℕ) → k < low → k < length table.now → owner_at table.now k ≢ None }
-    ensures takes { TakesSlot table.now set (over_of over.old) result (over_of over.new) }
+    ensures takes { TakesSlot table.now low set (over_of over.old) result (over_of over.new) }
     ensures small { IfSome result (λ slot. slot < 2 ^ 27) }
     ensures still { is_some over.new ≡ is_some over.old }
 {

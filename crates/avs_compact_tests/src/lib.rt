@@ -4,4 +4,16 @@
 #[cfg(test)]
 mod calls;
 #[cfg(test)]
+mod exits;
+#[cfg(test)]
+mod large;
+#[cfg(test)]
+mod pairs;
+#[cfg(test)]
+mod plain;
+#[cfg(test)]
+mod runs;
+#[cfg(test)]
+mod sets;
+#[cfg(test)]
 mod tests;

@@ -1,9 +1,9 @@
-use Rattle.std.proofs.Common.{rules, ◌≡◌, ◌≤◌, ◌<◌, ◌+◌, ◌-◌, ◌*◌, ◌/◌, ◌%◌, ℕ, Bool, List, IsTrue, is_some, length, take, drop, length-take, length-drop, Ok, Err, refl, ap, sym, subst, ◌∙◌, arith}
+use Rattle.std.proofs.Common.{rules, ◌≡◌, ◌≤◌, ◌+◌, ◌-◌, ◌*◌, ◌/◌, ℕ, Bool, IsTrue, length, take, drop, length-take, length-drop, Ok, Err, refl, sym, subst, arith}
 use Rattle.avs_seg.specs.declared.fault.Failed.{Failed}
 use Rattle.avs_seg.specs.Image.{Image, range, blocks_of}
 use Rattle.avs_seg.proofs.Bytes.{length-blocks_of, blocks_of-between}
 use Rattle.avs_seg.proofs.Ranges.{range_all}
-use Rattle.avs_compact.specs.CompactSet.{CompactSet, over_of}
+use Rattle.avs_compact.specs.CompactSet.{over_of}
 use Rattle.avs_compact.specs.Writing.{AreSplit, PutsShadow}
 use Rattle.avs_compact.proofs.Written.{puts_none, puts_more, puts_fail, part_split, there_then}
 use Rattle.avs_compact.proofs.compact.Compact.put_all.Goals as goal

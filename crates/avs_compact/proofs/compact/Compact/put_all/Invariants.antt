@@ -1,4 +1,4 @@
-use Rattle.std.proofs.Common.{◌≡◌, ◌≤◌, ◌-◌, IsTrue, is_some, Ok}
+use Rattle.std.proofs.Common.{◌≤◌, ◌-◌, Ok}
 use Rattle.avs_seg.specs.declared.fault.Failed.{Failed}
 use Rattle.avs_seg.specs.Image.{blocks_of, range}
 use Rattle.avs_compact.specs.CompactSet.{over_of}

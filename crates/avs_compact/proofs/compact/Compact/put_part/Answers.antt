@@ -1,4 +1,4 @@
-use Rattle.std.proofs.Common.{rules, ◌≡◌, ◌≤◌, ◌<◌, ◌+◌, ◌-◌, ◌*◌, ◌/◌, ◌%◌, ℕ, List, length, refl, ap, sym, subst, ◌∙◌, arith}
+use Rattle.std.proofs.Common.{rules, ◌≡◌, ◌≤◌, ◌<◌, ◌+◌, ◌-◌, ◌*◌, ◌/◌, ◌%◌, ℕ, List, length, ap, sym, subst, ◌∙◌, arith}
 use Rattle.std.specs.Option.{option_map}
 use Rattle.avs_over.specs.Over.{slot_from}
 use Rattle.avs_compact.specs.Entries.{entry_in, slot_by}
@@ -14,7 +14,7 @@ pub write_slot-requires-clause-inside : goal.write_slot-requires-clause-inside
 write_slot-requires-clause-inside g c =
     let i = c.self.inside in
     let seen = g.D.Disk.seen in
-    let s : CompactSet = record { set = i.set; own = i.own; shadow = option_map seen i.shadow; areas = i.flip; memory = i.memory.items; next = i.next.items; blocks = i.blocks } in
+    let s : CompactSet = record { set = i.set; own = i.own; shadow = option_map seen i.shadow; areas = i.flip; memory = i.memory.items; next = i.next.items; blocks = i.blocks; low = i.low; ahead = i.ahead } in
     let blocks : s.blocks ≡ c.args.self.now.blocks = ap (λ (x : CompactSet). x.blocks) c.self.view_is in
     let entry : c.entry_in.result ≡ entry_of s (c.args.at / 64) = c.entry_in.ensures ∙ ap (λ (l : List ℕ). entry_in l (c.args.at / 64)) c.deref.ensures.value in
     let slot : c.slot_by-slot.result ≡ slot_by (entry_of s (c.args.at / 64)) = c.slot_by-slot.ensures.is ∙ ap slot_by entry in
@@ -30,7 +30,7 @@ pub returns : goal.returns
 returns g c =
     let i = c.self.inside in
     let seen = g.D.Disk.seen in
-    let s : CompactSet = record { set = i.set; own = i.own; shadow = option_map seen i.shadow; areas = i.flip; memory = i.memory.items; next = i.next.items; blocks = i.blocks } in
+    let s : CompactSet = record { set = i.set; own = i.own; shadow = option_map seen i.shadow; areas = i.flip; memory = i.memory.items; next = i.next.items; blocks = i.blocks; low = i.low; ahead = i.ahead } in
     let blocks : s.blocks ≡ c.args.self.now.blocks = ap (λ (x : CompactSet). x.blocks) c.self.view_is in
     let entry : c.entry_in.result ≡ entry_of s (c.args.at / 64) = c.entry_in.ensures ∙ ap (λ (l : List ℕ). entry_in l (c.args.at / 64)) c.deref.ensures.value in
     let slot : c.slot_by-slot.result ≡ slot_by (entry_of s (c.args.at / 64)) = c.slot_by-slot.ensures.is ∙ ap slot_by entry in

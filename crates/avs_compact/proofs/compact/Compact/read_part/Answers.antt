@@ -10,7 +10,7 @@ pub returns-then-entry-eq0-clause-reads : goal.returns-then-entry-eq0-clause-rea
 returns-then-entry-eq0-clause-reads g c =
     let i = c.self.inside in
     let seen = g.D.Disk.seen in
-    let s : CompactSet = record { set = i.set; own = i.own; shadow = option_map seen i.shadow; areas = i.flip; memory = i.memory.items; next = i.next.items; blocks = i.blocks } in
+    let s : CompactSet = record { set = i.set; own = i.own; shadow = option_map seen i.shadow; areas = i.flip; memory = i.memory.items; next = i.next.items; blocks = i.blocks; low = i.low; ahead = i.ahead } in
     let blocks : s.blocks ≡ c.args.self.now.blocks = ap (λ (x : CompactSet). x.blocks) c.self.view_is in
     let count : length c.read.new.out / 512 ≡ length c.args.out.now / 512 = ap (λ (n : ℕ). n / 512) c.read.auto.out in
     let entry : c.entry_in-entry.result ≡ entry_of s (c.args.at / 64) = c.entry_in-entry.ensures ∙ ap (λ (l : List ℕ). entry_in l (c.args.at / 64)) c.deref.ensures.value in
@@ -21,7 +21,7 @@ pub read_slot-requires-clause-inside : goal.read_slot-requires-clause-inside
 read_slot-requires-clause-inside g c =
     let i = c.self.inside in
     let seen = g.D.Disk.seen in
-    let s : CompactSet = record { set = i.set; own = i.own; shadow = option_map seen i.shadow; areas = i.flip; memory = i.memory.items; next = i.next.items; blocks = i.blocks } in
+    let s : CompactSet = record { set = i.set; own = i.own; shadow = option_map seen i.shadow; areas = i.flip; memory = i.memory.items; next = i.next.items; blocks = i.blocks; low = i.low; ahead = i.ahead } in
     let blocks : s.blocks ≡ c.args.self.now.blocks = ap (λ (x : CompactSet). x.blocks) c.self.view_is in
     let entry : c.entry_in-entry.result ≡ entry_of s (c.args.at / 64) = c.entry_in-entry.ensures ∙ ap (λ (l : List ℕ). entry_in l (c.args.at / 64)) c.deref.ensures.value in
     let slot : c.slot_by-slot.result ≡ slot_by (entry_of s (c.args.at / 64)) = c.slot_by-slot.ensures.is ∙ ap slot_by entry in
@@ -34,7 +34,7 @@ pub returns-clause-reads : goal.returns-clause-reads
 returns-clause-reads g c =
     let i = c.self.inside in
     let seen = g.D.Disk.seen in
-    let s : CompactSet = record { set = i.set; own = i.own; shadow = option_map seen i.shadow; areas = i.flip; memory = i.memory.items; next = i.next.items; blocks = i.blocks } in
+    let s : CompactSet = record { set = i.set; own = i.own; shadow = option_map seen i.shadow; areas = i.flip; memory = i.memory.items; next = i.next.items; blocks = i.blocks; low = i.low; ahead = i.ahead } in
     let blocks : s.blocks ≡ c.args.self.now.blocks = ap (λ (x : CompactSet). x.blocks) c.self.view_is in
     let count : length c.read_slot.new.out / 512 ≡ length c.args.out.now / 512 = ap (λ (n : ℕ). n / 512) c.read_slot.ensures.len in
     let entry : c.entry_in-entry.result ≡ entry_of s (c.args.at / 64) = c.entry_in-entry.ensures ∙ ap (λ (l : List ℕ). entry_in l (c.args.at / 64)) c.deref.ensures.value in

@@ -1,7 +1,6 @@
-use Rattle.std.proofs.Common.{rules, ◌≡◌, ◌≢◌, ℕ, List, refl, sym, ap, subst, ◌∙◌, arith}
-use Rattle.std.specs.Option.{option_map}
+use Rattle.std.proofs.Common.{◌≡◌, ℕ, List, sym, ap, ◌∙◌, arith}
 use Rattle.avs_compact.specs.Entries.{entry_in, state_by}
-use Rattle.avs_compact.specs.CompactSet.{CompactSet, entry_of, over_of}
+use Rattle.avs_compact.specs.CompactSet.{CompactSet, entry_of}
 use Rattle.avs_compact.proofs.Settled.{zero_state}
 use Rattle.avs_compact.proofs.compact.Compact.save.Goals as goal
 

@@ -1,11 +1,11 @@
-use Rattle.std.proofs.Common.{rules, ◌≡◌, ◌+◌, ◌-◌, ◌*◌, ◌^◌, ◌<◌, min, inl, ℕ, List, Option, Some, None, Ok, Err, Result, OnOk, OnErr, length, refl, sym, ap, subst, ◌∙◌, arith}
+use Rattle.std.proofs.Common.{rules, ◌≡◌, ◌+◌, ◌-◌, ◌^◌, ◌<◌, min, inl, ℕ, List, Some, None, Err, Result, OnOk, OnErr, length, refl, sym, ap, subst, ◌∙◌, arith}
 use Rattle.std.specs.Option.{option_map}
 use Rattle.std.specs.Vec.{with_items}
 use Rattle.std.proofs.lemmas.List.{with_items_is}
-use Rattle.avs_seg.specs.Segment.{seg_count, seg_len}
+use Rattle.avs_seg.specs.Segment.{seg_count}
 use Rattle.avs_seg.specs.declared.fault.Failed.{Failed}
 use Rattle.avs_over.specs.Slots.{Owners}
-use Rattle.avs_compact.specs.Entries.{entry_in, entry_for}
+use Rattle.avs_compact.specs.Entries.{entry_in}
 use Rattle.avs_compact.specs.CompactSet.{CompactSet, over_of, is_over}
 use Rattle.avs_compact.specs.Disks.{Shadow}
 use Rattle.avs_compact.specs.Slots.{IsClean, Marks, MarksSlot, ArePassed}
@@ -20,21 +20,21 @@ pub returns-in_default : goal.returns-in_default
 returns-in_default g c =
     let i = c.self.inside in
     let seen = g.D.Disk.seen in
-    let s : CompactSet = record { set = i.set; own = i.own; shadow = option_map seen i.shadow; areas = i.flip; memory = i.memory.items; next = i.next.items; blocks = i.blocks } in
+    let s : CompactSet = record { set = i.set; own = i.own; shadow = option_map seen i.shadow; areas = i.flip; memory = i.memory.items; next = i.next.items; blocks = i.blocks; low = i.low; ahead = i.ahead } in
     let room = rw (← c.self.view_is) at c.requires.room in
-    let t = subst (λ (l : Owners). TakesSlot l i.set (over_of c.args.over.now) None (over_of c.take_slot.new.over)) c.deref.ensures.value c.in_default.ensures.takes in
-    absurd (slot_free s (over_of c.args.over.now) (over_of c.take_slot.new.over) i.table.items i.counts c.self.invariant.1 t room)
+    let t = subst (λ (l : Owners). TakesSlot l i.low i.set (over_of c.args.over.now) None (over_of c.take_slot.new.over)) c.deref.ensures.value c.in_default.ensures.takes in
+    absurd (slot_free s (over_of c.args.over.now) (over_of c.take_slot.new.over) i.table.items i.counts c.self.invariant.1 c.self.invariant.2.inside c.self.invariant.2.kept t room)
 
 pub returns-in_err-copy_in : goal.returns-in_err-copy_in
 returns-in_err-copy_in g c =
     let i = c.self.inside in
     let seen = g.D.Disk.seen in
-    let s : CompactSet = record { set = i.set; own = i.own; shadow = option_map seen i.shadow; areas = i.flip; memory = i.memory.items; next = i.next.items; blocks = i.blocks } in
+    let s : CompactSet = record { set = i.set; own = i.own; shadow = option_map seen i.shadow; areas = i.flip; memory = i.memory.items; next = i.next.items; blocks = i.blocks; low = i.low; ahead = i.ahead } in
     let there = rw (← c.self.view_is) at c.requires.chunk in
     let none = rw (← c.self.view_is) at c.requires.none in
-    let t = subst (λ (l : Owners). TakesSlot l i.set (over_of c.args.over.now) (Some c.in-Some.slot) (over_of c.take_slot.new.over)) c.deref.ensures.value c.in-Some.ensures.takes in
+    let t = subst (λ (l : Owners). TakesSlot l i.low i.set (over_of c.args.over.now) (Some c.in-Some.slot) (over_of c.take_slot.new.over)) c.deref.ensures.value c.in-Some.ensures.takes in
     let is : c.from_residual.result ≡ Err c.in_err-copy_in.field-0.0 = search rules in
-    rw is (rw (← c.self.view_is) (new_fails s c.args.chunk c.in-Some.slot (over_of c.args.over.now) (over_of c.take_slot.new.over) (over_of c.copy_in.new.over) i.table.items i.counts c.self.invariant.1 t there none
+    rw is (rw (← c.self.view_is) (new_fails s c.args.chunk c.in-Some.slot (over_of c.args.over.now) (over_of c.take_slot.new.over) (over_of c.copy_in.new.over) i.table.items i.counts c.self.invariant.1 c.self.invariant.2.inside c.self.invariant.2.kept t there none
     (option_map seen c.copy_in.new.shadow) (search rules) (seen c.args.master.now) (seen c.copy_in.new.master) c.copy_in.result c.seg_span-span.result.at c.seg_span-span.result.len c.seg_span-span.ensures.at c.seg_span-span.ensures.len c.copy_in.ensures.copies
     c.in_err-copy_in.field-0.0 c.in_err-copy_in.field-0.0 c.in_err-copy_in.was))
 
@@ -64,24 +64,24 @@ invariant_of-self-in_err-put_entry g c =
       kept_again (option_map seen i.shadow) (option_map seen c.copy_in.new.shadow) i.own i.flip c.put_entry.new.flip i.memory.items (with_items i.memory c.put_entry.new.memory).items i.next.items i.buffer.items (with_items i.buffer c.copy_in.new.buffer).items i.blocks k (search rules) size
           c.put_entry.ensures.place c.put_entry.ensures.goes.lasts.size (ap (λ (l : List ℕ). length l) same) (subst (λ (l : List ℕ). IsClean l (seg_count i.blocks)) (sym same) k.clean) (ap (λ (l : List ℕ). length l) long ∙ (search rules)),
       subst (λ (l : List ℕ). Marks (entry_in l) i.own (seg_count i.blocks) i.table.items i.counts) (sym same) c.self.invariant.1,
-      subst (λ (l : List ℕ). ArePassed (entry_in l) (seg_count i.blocks) i.table.items i.low i.due) (sym same) c.self.invariant.2,
+      subst (λ (l : List ℕ). ArePassed (entry_in l) (seg_count i.blocks) i.table.items i.low i.ahead i.due) (sym same) c.self.invariant.2,
     )
 
 pub returns-in_err-put_entry : goal.returns-in_err-put_entry
 returns-in_err-put_entry g c =
     let i = c.self.inside in
     let seen = g.D.Disk.seen in
-    let s : CompactSet = record { set = i.set; own = i.own; shadow = option_map seen i.shadow; areas = i.flip; memory = i.memory.items; next = i.next.items; blocks = i.blocks } in
+    let s : CompactSet = record { set = i.set; own = i.own; shadow = option_map seen i.shadow; areas = i.flip; memory = i.memory.items; next = i.next.items; blocks = i.blocks; low = i.low; ahead = i.ahead } in
     let there = rw (← c.self.view_is) at c.requires.chunk in
     let none = rw (← c.self.view_is) at c.requires.none in
-    let t = subst (λ (l : Owners). TakesSlot l i.set (over_of c.args.over.now) (Some c.in-Some.slot) (over_of c.take_slot.new.over)) c.deref.ensures.value c.in-Some.ensures.takes in
+    let t = subst (λ (l : Owners). TakesSlot l i.low i.set (over_of c.args.over.now) (Some c.in-Some.slot) (over_of c.take_slot.new.over)) c.deref.ensures.value c.in-Some.ensures.takes in
     let is : c.from_residual-in_err-put_entry.result ≡ Err c.in_err-put_entry.field-0.0 = search rules in
     let items : (with_items i.memory c.put_entry.new.memory).items ≡ c.put_entry.new.memory = with_items_is i.memory c.put_entry.new.memory (search rules) in
     let puts = subst (λ (k : ℕ). WritesEntry i.flip i.memory.items c.args.chunk k c.put_entry.result c.put_entry.new.flip c.put_entry.new.memory) c.entry_for-entry.ensures
     (subst (λ (l : List ℕ). WritesEntry i.flip l c.args.chunk c.entry_for-entry.result c.put_entry.result c.put_entry.new.flip c.put_entry.new.memory) c.deref_mut-2.ensures.value c.put_entry.ensures) in
-    let st = new_settles s c.args.chunk c.in-Some.slot (over_of c.args.over.now) (over_of c.take_slot.new.over) (over_of c.copy_in.new.over) i.table.items i.counts c.self.invariant.1 t there none
+    let st = new_settles s c.args.chunk c.in-Some.slot (over_of c.args.over.now) (over_of c.take_slot.new.over) (over_of c.copy_in.new.over) i.table.items i.counts c.self.invariant.1 c.self.invariant.2.inside c.self.invariant.2.kept t there none
     (option_map seen c.copy_in.new.shadow) (search rules) (seen c.args.master.now) (seen c.copy_in.new.master) c.copy_in.result c.seg_span-span.result.at c.seg_span-span.result.len c.seg_span-span.ensures.at c.seg_span-span.ensures.len c.copy_in.ensures.copies
-    (omega (arith, c.in-Some.ensures.small)) c.self.invariant.0.clean c.self.invariant.0.first c.put_entry.new.flip c.put_entry.new.memory c.in_ok-copy_in.field-0 c.in_ok-copy_in.was c.put_entry.result puts in
+    (omega (arith, c.in-Some.ensures.small)) c.self.invariant.0.clean c.self.invariant.0.first c.put_entry.new.flip c.put_entry.new.memory i.low c.in_ok-copy_in.field-0 c.in_ok-copy_in.was c.put_entry.result puts in
     rw is (rw (← c.self.view_is) (rw items (settles_err s _ (over_of c.args.over.now) (over_of c.copy_in.new.over) (seen c.args.master.now) (seen c.copy_in.new.master) c.args.chunk 2 c.put_entry.result c.in_err-put_entry.field-0.0 c.in_err-put_entry.field-0.0 c.in_err-put_entry.was st)))
 
 pub mark_slot-self-inside-requires-clause-over : goal.mark_slot-self-inside-requires-clause-over
@@ -96,7 +96,7 @@ invariant_of-self-2 g c =
     let k = c.self.invariant.0 in
     let there = rw (← c.self.view_is) at c.requires.chunk in
     let none = rw (← c.self.view_is) at c.requires.none in
-    let t = subst (λ (l : Owners). TakesSlot l i.set (over_of c.args.over.now) (Some c.in-Some.slot) (over_of c.take_slot.new.over)) c.deref.ensures.value c.in-Some.ensures.takes in
+    let t = subst (λ (l : Owners). TakesSlot l i.low i.set (over_of c.args.over.now) (Some c.in-Some.slot) (over_of c.take_slot.new.over)) c.deref.ensures.value c.in-Some.ensures.takes in
     let long : (with_items i.buffer c.copy_in.new.buffer).items ≡ c.copy_in.new.buffer = with_items_is i.buffer c.copy_in.new.buffer (search rules) in
     let items : (with_items i.memory c.put_entry.new.memory).items ≡ c.put_entry.new.memory = with_items_is i.memory c.put_entry.new.memory (search rules) in
     let set_now = subst (λ (r : Result (Unit {0}) Failed). OnOk r (PutsEntry c.deref_mut-2.result.now c.put_entry.new.memory c.args.chunk c.entry_for-entry.result)) c.in_ok-put_entry.was c.put_entry.ensures.set in
@@ -111,12 +111,12 @@ invariant_of-self-2 g c =
           (subst (λ (l : List ℕ). IsClean l (seg_count i.blocks)) (sym items) (clean_again i.memory.items c.put_entry.new.memory c.args.chunk 2 c.in-Some.slot (seg_count i.blocks) puts there (inl refl) small k.clean)) (ap (λ (l : List ℕ). length l) long ∙ (search rules)),
       subst (λ (l : List ℕ). Marks (entry_in l) i.own (seg_count i.blocks) (with_items i.table c.mark_slot-self-inside.new.table).items c.mark_slot-self-inside.result) (sym items)
           (subst (λ (l : Owners). Marks (entry_in c.put_entry.new.memory) i.own (seg_count i.blocks) l c.mark_slot-self-inside.result) (sym table)
-          (took_marks i.memory.items c.put_entry.new.memory c.args.chunk 2 c.in-Some.slot (seg_count i.blocks) puts there (inl refl) small i.own i.table.items i.counts i.low i.due c.self.invariant.1 c.self.invariant.2 i.set (over_of c.args.over.now) (over_of c.take_slot.new.over) t none
+          (took_marks i.memory.items c.put_entry.new.memory c.args.chunk 2 c.in-Some.slot (seg_count i.blocks) puts there (inl refl) small i.own i.table.items i.counts i.low i.ahead i.due c.self.invariant.1 c.self.invariant.2 i.set (over_of c.args.over.now) (over_of c.take_slot.new.over) t none
           c.mark_slot-self-inside.new.table c.mark_slot-self-inside.result marked)),
-      subst (λ (l : List ℕ). ArePassed (entry_in l) (seg_count i.blocks) (with_items i.table c.mark_slot-self-inside.new.table).items c.min-self-inside.result i.due) (sym items)
-          (subst (λ (l : Owners). ArePassed (entry_in c.put_entry.new.memory) (seg_count i.blocks) l c.min-self-inside.result i.due) (sym table)
-          (subst (λ (n : ℕ). ArePassed (entry_in c.put_entry.new.memory) (seg_count i.blocks) c.mark_slot-self-inside.new.table n i.due) (sym low)
-          (took_passed i.memory.items c.put_entry.new.memory c.args.chunk 2 c.in-Some.slot (seg_count i.blocks) puts there (inl refl) small i.own i.table.items i.counts i.low i.due c.self.invariant.1 c.self.invariant.2 i.set (over_of c.args.over.now) (over_of c.take_slot.new.over) t none
+      subst (λ (l : List ℕ). ArePassed (entry_in l) (seg_count i.blocks) (with_items i.table c.mark_slot-self-inside.new.table).items c.min-self-inside.result i.ahead i.due) (sym items)
+          (subst (λ (l : Owners). ArePassed (entry_in c.put_entry.new.memory) (seg_count i.blocks) l c.min-self-inside.result i.ahead i.due) (sym table)
+          (subst (λ (n : ℕ). ArePassed (entry_in c.put_entry.new.memory) (seg_count i.blocks) c.mark_slot-self-inside.new.table n i.ahead i.due) (sym low)
+          (took_passed i.memory.items c.put_entry.new.memory c.args.chunk 2 c.in-Some.slot (seg_count i.blocks) puts there (inl refl) small i.own i.table.items i.counts i.low i.ahead i.due c.self.invariant.1 c.self.invariant.2 i.set (over_of c.args.over.now) (over_of c.take_slot.new.over) t none
           c.mark_slot-self-inside.new.table c.mark_slot-self-inside.result marked))),
     )
 
@@ -124,14 +124,14 @@ pub returns : goal.returns
 returns g c =
     let i = c.self.inside in
     let seen = g.D.Disk.seen in
-    let s : CompactSet = record { set = i.set; own = i.own; shadow = option_map seen i.shadow; areas = i.flip; memory = i.memory.items; next = i.next.items; blocks = i.blocks } in
+    let s : CompactSet = record { set = i.set; own = i.own; shadow = option_map seen i.shadow; areas = i.flip; memory = i.memory.items; next = i.next.items; blocks = i.blocks; low = i.low; ahead = i.ahead } in
     let there = rw (← c.self.view_is) at c.requires.chunk in
     let none = rw (← c.self.view_is) at c.requires.none in
-    let t = subst (λ (l : Owners). TakesSlot l i.set (over_of c.args.over.now) (Some c.in-Some.slot) (over_of c.take_slot.new.over)) c.deref.ensures.value c.in-Some.ensures.takes in
+    let t = subst (λ (l : Owners). TakesSlot l i.low i.set (over_of c.args.over.now) (Some c.in-Some.slot) (over_of c.take_slot.new.over)) c.deref.ensures.value c.in-Some.ensures.takes in
     let items : (with_items i.memory c.put_entry.new.memory).items ≡ c.put_entry.new.memory = with_items_is i.memory c.put_entry.new.memory (search rules) in
     let puts = subst (λ (k : ℕ). WritesEntry i.flip i.memory.items c.args.chunk k c.put_entry.result c.put_entry.new.flip c.put_entry.new.memory) c.entry_for-entry.ensures
     (subst (λ (l : List ℕ). WritesEntry i.flip l c.args.chunk c.entry_for-entry.result c.put_entry.result c.put_entry.new.flip c.put_entry.new.memory) c.deref_mut-2.ensures.value c.put_entry.ensures) in
-    let st = new_settles s c.args.chunk c.in-Some.slot (over_of c.args.over.now) (over_of c.take_slot.new.over) (over_of c.copy_in.new.over) i.table.items i.counts c.self.invariant.1 t there none
+    let st = new_settles s c.args.chunk c.in-Some.slot (over_of c.args.over.now) (over_of c.take_slot.new.over) (over_of c.copy_in.new.over) i.table.items i.counts c.self.invariant.1 c.self.invariant.2.inside c.self.invariant.2.kept t there none
     (option_map seen c.copy_in.new.shadow) (search rules) (seen c.args.master.now) (seen c.copy_in.new.master) c.copy_in.result c.seg_span-span.result.at c.seg_span-span.result.len c.seg_span-span.ensures.at c.seg_span-span.ensures.len c.copy_in.ensures.copies
-    (omega (arith, c.in-Some.ensures.small)) c.self.invariant.0.clean c.self.invariant.0.first c.put_entry.new.flip c.put_entry.new.memory c.in_ok-copy_in.field-0 c.in_ok-copy_in.was c.put_entry.result puts in
+    (omega (arith, c.in-Some.ensures.small)) c.self.invariant.0.clean c.self.invariant.0.first c.put_entry.new.flip c.put_entry.new.memory c.min-self-inside.result c.in_ok-copy_in.field-0 c.in_ok-copy_in.was c.put_entry.result puts in
     rw (← c.self.view_is) (rw items (settles_ok s _ (over_of c.args.over.now) (over_of c.copy_in.new.over) (seen c.args.master.now) (seen c.copy_in.new.master) c.args.chunk 2 c.put_entry.result c.in_ok-put_entry.field-0 tt c.in_ok-put_entry.was st))

@@ -1,9 +1,9 @@
-use Rattle.std.proofs.Common.{rules, ◌≡◌, ◌*◌, ◌<◌, ℕ, List, length, Option, Some, None, Ok, Err, refl, sym, ap, subst, ◌∙◌, arith}
+use Rattle.std.proofs.Common.{rules, ◌≡◌, ℕ, List, length, Err, sym, ap, subst, ◌∙◌}
 use Rattle.std.specs.Option.{option_map}
 use Rattle.std.specs.Vec.{with_items}
 use Rattle.std.proofs.lemmas.List.{with_items_is}
 use Rattle.avs_seg.specs.Segment.{seg_count}
-use Rattle.avs_compact.specs.Entries.{entry_in, entry_for, slot_by, code_of}
+use Rattle.avs_compact.specs.Entries.{entry_in, slot_by, code_of}
 use Rattle.avs_compact.specs.CompactSet.{CompactSet, disk_of, over_of}
 use Rattle.avs_compact.specs.Disks.{Shadow}
 use Rattle.avs_compact.specs.Slots.{IsClean, Marks, ArePassed}
@@ -17,7 +17,7 @@ pub returns-in_err-copy_back : goal.returns-in_err-copy_back
 returns-in_err-copy_back g c =
     let i = c.self.inside in
     let seen = g.D.Disk.seen in
-    let s : CompactSet = record { set = i.set; own = i.own; shadow = option_map seen i.shadow; areas = i.flip; memory = i.memory.items; next = i.next.items; blocks = i.blocks } in
+    let s : CompactSet = record { set = i.set; own = i.own; shadow = option_map seen i.shadow; areas = i.flip; memory = i.memory.items; next = i.next.items; blocks = i.blocks; low = i.low; ahead = i.ahead } in
     let may = rw (← c.self.view_is) at c.requires.may in
     let served = rw (← c.self.view_is) at c.requires.slots in
     let entry : c.entry_in-old.result ≡ entry_in i.memory.items c.args.chunk = c.entry_in-old.ensures ∙ ap (λ (l : List ℕ). entry_in l c.args.chunk) c.deref.ensures.value in
@@ -30,7 +30,7 @@ pub returns : goal.returns
 returns g c =
     let i = c.self.inside in
     let seen = g.D.Disk.seen in
-    let s : CompactSet = record { set = i.set; own = i.own; shadow = option_map seen i.shadow; areas = i.flip; memory = i.memory.items; next = i.next.items; blocks = i.blocks } in
+    let s : CompactSet = record { set = i.set; own = i.own; shadow = option_map seen i.shadow; areas = i.flip; memory = i.memory.items; next = i.next.items; blocks = i.blocks; low = i.low; ahead = i.ahead } in
     let may = rw (← c.self.view_is) at c.requires.may in
     let served = rw (← c.self.view_is) at c.requires.slots in
     let entry : c.entry_in-old.result ≡ entry_in i.memory.items c.args.chunk = c.entry_in-old.ensures ∙ ap (λ (l : List ℕ). entry_in l c.args.chunk) c.deref.ensures.value in
@@ -56,10 +56,10 @@ invariant_of-self-2 g c =
     (subst (λ (l : List ℕ). WritesEntry i.flip l c.args.chunk c.entry_for-entry.result c.put_entry.result c.put_entry.new.flip c.put_entry.new.memory) c.deref_mut-2.ensures.value c.put_entry.ensures) in
     let size = ((back_goes c.entry_in-old.result (seen c.args.master.now) (seen c.copy_back.new.master) (disk_of (option_map seen i.shadow)) (disk_of (option_map seen c.copy_back.new.shadow)) (over_of c.args.over.now) (over_of c.copy_back.new.over) i.own
     c.seg_span-span.result.at c.seg_span-span.result.len c.copy_back.result c.copy_back.ensures.copies (seen c.args.master.now)) Shadow).size in
-    let stands = stands_again i.memory.items c.put_entry.new.memory c.args.chunk (code_of c.args.target) c.slot_by.result (seg_count i.blocks) i.own i.table.items i.counts i.low i.due c.put_entry.result puts.set puts.unset
+    let stands = stands_again i.memory.items c.put_entry.new.memory c.args.chunk (code_of c.args.target) c.slot_by.result (seg_count i.blocks) i.own i.table.items i.counts i.low i.ahead i.due c.put_entry.result puts.set puts.unset
     may.there may.targets c.slot_by.ensures.small may.slot slot (record { clean = k.clean; marks = c.self.invariant.1; passed = c.self.invariant.2 }) in (
       kept_again (option_map seen i.shadow) (option_map seen c.copy_back.new.shadow) i.own i.flip c.put_entry.new.flip i.memory.items (with_items i.memory c.put_entry.new.memory).items i.next.items i.buffer.items (with_items i.buffer c.copy_back.new.buffer).items i.blocks k (search rules) size
           puts.place puts.goes.lasts.size (ap (λ (l : List ℕ). length l) items ∙ puts.len) (subst (λ (l : List ℕ). IsClean l (seg_count i.blocks)) (sym items) stands.clean) (ap (λ (l : List ℕ). length l) long ∙ (search rules)),
       subst (λ (l : List ℕ). Marks (entry_in l) i.own (seg_count i.blocks) i.table.items i.counts) (sym items) stands.marks,
-      subst (λ (l : List ℕ). ArePassed (entry_in l) (seg_count i.blocks) i.table.items i.low i.due) (sym items) stands.passed,
+      subst (λ (l : List ℕ). ArePassed (entry_in l) (seg_count i.blocks) i.table.items i.low i.ahead i.due) (sym items) stands.passed,
     )

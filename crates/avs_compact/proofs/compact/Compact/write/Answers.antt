@@ -1,6 +1,6 @@
-use Rattle.std.proofs.Common.{rules, ◌≡◌, ◌≤◌, ◌<◌, ◌+◌, ◌-◌, ◌*◌, ◌/◌, ℕ, Bool, Result, IsTrue, length, Ok, Err, ap, sym, subst, ◌∙◌, arith}
+use Rattle.std.proofs.Common.{rules, ◌≡◌, ◌-◌, ◌/◌, ℕ, Bool, IsTrue, Err, sym, subst, arith}
 use Rattle.avs_compact.specs.declared.fault.CompactFault.TheVariants.{Failed}
-use Rattle.avs_compact.specs.CompactSet.{CompactSet, over_of}
+use Rattle.avs_compact.specs.CompactSet.{over_of}
 use Rattle.avs_compact.specs.Saving.{SavesRange}
 use Rattle.avs_compact.proofs.WrittenAll.{writes_unsaved, writes_put, writes_torn, split_b, there_b, blocks_b, still_b}
 use Rattle.avs_compact.proofs.compact.Compact.write.Goals as goal
