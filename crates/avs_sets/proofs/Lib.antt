@@ -22,3 +22,6 @@ pub mod Listed
 pub mod Counted
 pub mod Offlining
 pub mod OwnSlots
+pub mod Owned
+pub mod Saving
+pub mod Rooms

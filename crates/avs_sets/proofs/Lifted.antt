@@ -1,8 +1,8 @@
 -- A call on one set, its master's disk and its overflow volume, lifted to the group.
-use Rattle.std.proofs.Common.{◌≡◌, ◌≢◌, ◌⊎◌, inl, inr, ℕ, ◌<◌, Bool, true, false, ◌&&◌, IsTrue, Option, None, Some, is_some, List, length, set, get_or, Result, ◌∙◌, sym, refl, ap, subst, arith}
+use Rattle.std.proofs.Common.{◌≡◌, ◌≢◌, ◌⊎◌, inl, inr, ℕ, ◌<◌, Bool, true, false, ◌&&◌, IsTrue, Option, None, Some, is_some, List, length, map, set, get_or, Result, ◌∙◌, sym, refl, ap, subst, arith}
 use Rattle.std.specs.Option.{option_map}
 use Rattle.std.proofs.lemmas.Bool.{cases_eq}
-use Rattle.std.proofs.lemmas.List.{get_or-set_same, get_or-set_other, length-set, get_or_past}
+use Rattle.std.proofs.lemmas.List.{get_or-set_same, get_or-set_other, length-set, length-map, map-set, get_or_past}
 use Rattle.avs_seg.specs.Image.{Image, block_at}
 use Rattle.avs_dev.specs.Seen.{Seen, IsTold, shown}
 use Rattle.avs_dev.specs.Devices.{AllGoOn}
@@ -45,6 +45,12 @@ only_set D at d lt = record {
   others = λ n ne. get_or-set_other D at n (Some d) None (λ e. ne (ap (λ (k : ℕ). Some k) e));
   seat = λ n is. subst (λ (k : ℕ). IsTrue (is_some (get_or (set D at (Some d)) k None))) (number_is at n is) (ap (λ (o : Option Seen). is_some o) (get_or-set_same D at (Some d) None lt));
 }
+
+-- of disks themselves, where one is put in the place of another
+pub only_seen : {D : Type 0} (seen : D → Seen) (V : List (Option D)) (at : ℕ) (d : D) → at < length V
+    → OnlyDisk (map (λ v. option_map seen v) V) (map (λ v. option_map seen v) (set V at (Some d))) (Some at)
+only_seen seen V at d lt = subst (λ (l : List (Option Seen)). OnlyDisk (map (λ v. option_map seen v) V) l (Some at)) (sym (map-set (λ v. option_map seen v) V at (Some d)))
+    (only_set (map (λ v. option_map seen v) V) at (seen d) (omega (arith, lt, length-map V (λ v. option_map seen v))))
 
 -- the number of the disk, where there is one
 abbrev pub number_in : List (Option Seen) → Option ℕ → ℕ

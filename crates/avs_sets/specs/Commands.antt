@@ -29,7 +29,8 @@ pub record KeepsSlot (old new : SlotSays) : Type 0 where
 -- by a full copy all does; of another set all does
 abbrev pub renewed : Bool → Kind → ℕ → ℕ
 renewed whole kind state =
-    if not (is_independent kind) || whole then on_master else if state == split then on_master else state
+    if not (is_independent kind) || whole then on_master
+    else if state == split then on_master else state
 
 -- the master becomes the shadow: what was split stands on the shadow alone
 abbrev pub restored : ℕ → ℕ
@@ -79,7 +80,8 @@ pub record Overtaken (says block : BlockSays) (volumes overs : List (Option Seen
   pub slot : KeepsSlot (slot_of says s) (slot_of block s)
   pub stopped : (slot_of block s).stopped ≡ (slot_of says s).stopped
   pub standing : standing_of block s ≡ standing_of says s
-  pub states : HasStates says block s (λ chunk state. overtaken ((chunks_by says from).state chunk) state)
+  pub states : HasStates says block s
+      (λ chunk state. overtaken ((chunks_by says from).state chunk) state)
   pub places : (c : ℕ) → (chunks_by says s).state c ≢ on_master → (chunks_by block s).place c
       ≡ (chunks_by says s).place c
   pub copied : is_online (standing_of says s) ≡ true → (i : ℕ) → i < s.size.blocks

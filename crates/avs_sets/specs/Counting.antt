@@ -27,7 +27,8 @@ is_exact g (OverDisk over) = false
 -- what a call on a group writes
 abbrev pub CountsWork : {T E : Type 0} → GroupSeen → List (Work GroupSpot) → Result T E → GroupSeen
     → Type 0
-CountsWork old works result new = Counts (is_exact old) (disk_at old) (λ spot. blocks_on_spot works spot) result (disk_at new)
+CountsWork old works result new =
+    Counts (is_exact old) (disk_at old) (λ spot. blocks_on_spot works spot) result (disk_at new)
 
 -- a call that does these stages writes their work
 abbrev pub CountsStages : {T E : Type 0} → GroupSeen → List GroupStage → Result T E → GroupSeen

@@ -6,3 +6,5 @@ pub mod Goes
 pub mod Steps
 pub mod Commands
 pub mod Counting
+pub mod Owners
+pub mod Rooms

@@ -70,7 +70,8 @@ abbrev pub chunks_by : BlockSays → SetSeen → ChunkMap
 chunks_by says s = s.area (slot_of says s).area_b
 
 abbrev pub read : BlockSays → List (Option Seen) → SetSeen → SetRead
-read says overs s = read_from (chunks_by says s) s.size.blocks (shown (shadow_disk s)) (over_image overs s.over)
+read says overs s =
+    read_from (chunks_by says s) s.size.blocks (shown (shadow_disk s)) (over_image overs s.over)
 
 -- ---- the image of a volume
 
@@ -88,12 +89,14 @@ pick says overs (s ∷ sets) volume i block =
     if is_back says volume i s then (read says overs s).stands i else others
 
 abbrev pub picked : BlockSays → List (Option Seen) → List SetSeen → ℕ → Image → Image
-picked says overs sets volume image = tabulate (length image) (λ i. pick says overs sets volume i (block_at image i))
+picked says overs sets volume image =
+    tabulate (length image) (λ i. pick says overs sets volume i (block_at image i))
 
 abbrev pub volume_by : BlockSays → List (Option Seen) → List (Option Seen) → List SetSeen → ℕ
     → Option Image
 volume_by says volumes overs sets volume =
-    option_map (λ disk. picked says overs sets volume (shown disk)) (slice_index_or volumes volume None)
+    option_map (λ disk. picked says overs sets volume (shown disk))
+    (slice_index_or volumes volume None)
 
 -- ---- a set
 
@@ -142,7 +145,8 @@ state_of s slot one master behind = record {
 }
 
 abbrev pub set_by : BlockSays → List (Option Seen) → List (Option Seen) → SetSeen → ShadowState
-set_by says volumes overs s = state_of s (slot_of says s) (read says overs s) (image_in volumes s.master) (behind_of s)
+set_by says volumes overs s =
+    state_of s (slot_of says s) (read says overs s) (image_in volumes s.master) (behind_of s)
 
 -- ---- the group
 
@@ -155,7 +159,9 @@ is_used says sets over = list_any (λ s. is_enabled says s && is_over s.over ove
 
 abbrev pub over_by : BlockSays → List (Option Seen) → List SetSeen → ℕ → Option ℕ
 over_by says overs sets over =
-    if is_used says sets over then option_map (λ disk. over_slots disk.size) (slice_index_or overs over None) else None
+    if is_used says sets over
+    then option_map (λ disk. over_slots disk.size) (slice_index_or overs over None)
+    else None
 
 abbrev pub group_by : BlockSays → List (Option Seen) → List (Option Seen) → List SetSeen
     → GroupState

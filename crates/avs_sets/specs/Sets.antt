@@ -51,7 +51,16 @@ pub record SetSeen : Type 0 where
 
 -- a disk that is not there: it has no block and never fails
 abbrev pub absent : Seen
-absent = record { image = []; size = 0; faults = 0; written = 0; steady = true; armed = false; tear = None; arms = false }
+absent = record {
+  image = [];
+  size = 0;
+  faults = 0;
+  written = 0;
+  steady = true;
+  armed = false;
+  tear = None;
+  arms = false;
+}
 
 abbrev pub disk_of : Option Seen → Seen
 disk_of None = absent
@@ -98,8 +107,11 @@ block_in shadow over (OverSlot p) i = block_at over (1 + (64 * p + i % 64))
 
 -- the same over what both show
 abbrev pub read_from : ChunkMap → ℕ → Image → Image → SetRead
-read_from chunks blocks shadow over =
-    record { blocks = blocks; state = chunks.state; stands = λ i. block_in shadow over (chunks.place (i / 64)) i }
+read_from chunks blocks shadow over = record {
+  blocks = blocks;
+  state = chunks.state;
+  stands = λ i. block_in shadow over (chunks.place (i / 64)) i;
+}
 
 -- block i of the shadow, and block i of the master, over an image of the master's disk
 abbrev pub shadow_block : SetRead → Image → ℕ → Block

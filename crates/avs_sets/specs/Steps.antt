@@ -34,7 +34,8 @@ pub record OnlyDisk (old new : List (Option Seen)) (number : Option ℕ) : Type 
 
 -- what is read of a set over its overflow volume
 abbrev pub read_over : BlockSays → SetSeen → Seen → SetRead
-read_over says s over = read_from (chunks_by says s) s.size.blocks (shown (shadow_disk s)) (shown over)
+read_over says s over =
+    read_from (chunks_by says s) s.size.blocks (shown (shadow_disk s)) (shown over)
 
 -- the disks of a set and its master tell their blocks, and its memory is in step
 pub record IsKnown (says : BlockSays) (s : SetSeen) (m over : Seen) : Type 0 where
@@ -66,7 +67,8 @@ pub record TakesPlaces (says : BlockSays) (mine : ℕ → Type 0) (old new : Set
 -- what a step keeps of what a set's master, its overflow volume and other sets stand for
 pub record KeepsRead (says : BlockSays) (mine : ℕ → Type 0) (old : SetSeen) (m over : Seen)
     (new : SetSeen) (m_new over_new : Seen) : Type 0 where
-  pub master : KeepsMaster (read_over says old over) (shown m) (read_over says new over_new) (shown m_new)
+  pub master : KeepsMaster (read_over says old over) (shown m)
+      (read_over says new over_new) (shown m_new)
   pub behind : behind_of new ≡ behind_of old
   pub slots : KeepsSlots mine (shown over) (shown over_new)
   pub takes : TakesPlaces says mine old new
@@ -117,10 +119,39 @@ pub record Settles {T E : Type 0} (says : BlockSays) (mine : ℕ → Type 0) (ol
   pub shadow : IsKnown says old m over
       → KeepsShadow (read_over says old over) (shown m) (read_over says new over_new) (shown m_new)
   pub done : IsKnown says old m over
-      → OnOk result (SetsOne (chunks_by says old).state (chunks_by says new).state (chunks_of old) chunk target)
+      → OnOk result (SetsOne (chunks_by says old).state (chunks_by says new).state
+      (chunks_of old) chunk target)
   pub stopped : IsKnown says old m over
-      → OnErr result (StatesSame (chunks_by says old).state (chunks_by says new).state (chunks_of old)
+      → OnErr result (StatesSame (chunks_by says old).state (chunks_by says new).state
+      (chunks_of old)
       ⊎ SetsOne (chunks_by says old).state (chunks_by says new).state (chunks_of old) chunk target)
+
+-- of so many chunks those from `first` up to `end` are split, and the others are in the states that
+-- they were in; and some of those, from the first on
+pub record Splits (old new : ℕ → ℕ) (chunks first end : ℕ) : Type 0 where
+  pub inside : (c : ℕ) → c < chunks → first ≤ c → c < end → new c ≡ split
+  pub outside : (c : ℕ) → c < chunks → (c < first) ⊎ (end ≤ c) → new c ≡ old c
+
+pub record SplitsFirst (old new : ℕ → ℕ) (chunks first end : ℕ) : Type 0 where
+  pub upto : ℕ
+  pub low : first ≤ upto
+  pub high : upto ≤ end
+  pub splits : Splits old new chunks first upto
+
+-- Chunks are saved one after another, from `first` up to `end`: each is copied where it stands on
+-- one disk alone, and is split then. Where that fails some of them are, from the first on.
+pub record SavesRange {T E : Type 0} (says : BlockSays) (mine : ℕ → Type 0) (old : SetSeen)
+    (m over : Seen) (first end : ℕ) (result : Result T E) (new : SetSeen)
+    (m_new over_new : Seen) : Type 0 where
+  pub keeps : KeepsSet says mine old m over result new m_new over_new
+  pub shadow : IsKnown says old m over
+      → KeepsShadow (read_over says old over) (shown m) (read_over says new over_new) (shown m_new)
+  pub done : IsKnown says old m over
+      → OnOk result (Splits (chunks_by says old).state (chunks_by says new).state
+      (chunks_of old) first end)
+  pub stopped : IsKnown says old m over
+      → OnErr result (SplitsFirst (chunks_by says old).state (chunks_by says new).state
+      (chunks_of old) first end)
 
 -- blocks of the shadow are written whose chunks are split: no state changes
 pub record PutsShadow {T E : Type 0} (says : BlockSays) (mine : ℕ → Type 0) (old : SetSeen)
@@ -133,7 +164,8 @@ pub record PutsShadow {T E : Type 0} (says : BlockSays) (mine : ℕ → Type 0) 
       → OnOk result (shadow_over (read_over says new over_new) (shown m_new)
       ≡ put (shadow_over (read_over says old over) (shown m)) at bs)
   pub stopped : IsKnown says old m over
-      → OnErr result (IsMix (shadow_over (read_over says old over) (shown m)) at bs (shadow_over (read_over says new over_new) (shown m_new)))
+      → OnErr result (IsMix (shadow_over (read_over says old over) (shown m)) at bs
+      (shadow_over (read_over says new over_new) (shown m_new)))
 
 -- by the memory the chunks of a range of a volume are saved in all its sets: split, and in a set
 -- that is offline not on the shadow alone
