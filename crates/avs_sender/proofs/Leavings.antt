@@ -1,7 +1,10 @@
 -- A sender leaves by one note.
-use Rattle.std.proofs.Common.{◌≡◌, ◌⊎◌, inl, inr, ℕ, true, false, List, [], cond, length, get_or, Result, Ok, Err, None, Some, ◌∙◌, sym, refl, ap, subst, arith}
+use Rattle.std.proofs.Common.{◌≡◌, ◌⊎◌, inl, inr, ℕ, ◌≤◌, ◌^◌, Bool, true, false, List, [], cond, length, get_or, Result, Ok, Err, None, Some, ◌∙◌, sym, refl, ap, subst, arith}
 use Rattle.std.proofs.Math.Path.{fun_ext}
+use Rattle.std.specs.Prelude.{nat_le}
 use Rattle.avs_seg.specs.Image.{Image}
+use Rattle.avs_model.specs.declared.half.HalfRole.{HalfRole}
+use Rattle.avs_model.specs.declared.half.HalfRole.TheVariants.{Lone, Sender, Receiver}
 use Rattle.avs_dev.specs.Devices.{NoneFell}
 use Rattle.avs_dev.specs.Below.{BelowSeen, SetsNote}
 use Rattle.avs_dev.proofs.Going.{lasts_same, spared_same}
@@ -10,16 +13,17 @@ use Rattle.avs_mqueue.specs.Queue.{Queue}
 use Rattle.avs_model.specs.declared.half.State.{State}
 use Rattle.avs_model.specs.declared.half.State.TheVariants.{Logging, Syncing, Receiving, Replicating, Queuing}
 use Rattle.avs_mirrors.specs.Half.{is_session, left_sender}
-use Rattle.avs_sync.specs.Note.{IsNote, note_at}
+use Rattle.avs_sync.specs.Note.{IsNote, NoteKeeps, note_at, may_be}
 use Rattle.avs_sync.specs.Session.{left}
 use Rattle.avs_sync.specs.declared.note.Note.{Note}
 use Rattle.avs_halves.specs.SetBits.{has_bit, set_at}
 use Rattle.avs_halves.specs.Writing.{PutsNote}
-use Rattle.avs_sender.specs.Held.{SenderHalf, SenderHeld, held, parts_of}
+use Rattle.avs_sender.specs.Held.{SenderHalf, SenderHeld, SenderOf, SenderParts, held, parts_of, seen_of}
+use Rattle.avs_sender.specs.Kept.{IsKept}
 use Rattle.avs_sender.specs.Meaning.{IsSenderInStep, due_of, places_at, waits, sender_of, found_again, found_by, found_of, stored_bytes}
 use Rattle.avs_sender.specs.Over.{IsOver}
 use Rattle.avs_sender.specs.Going.{BelowStays, SenderStays, NoneFailed}
-use Rattle.avs_sender.specs.Leaving.{Leaves}
+use Rattle.avs_sender.specs.Leaving.{Leaves, half_left, left_note, known_mark}
 use Rattle.avs_sender.proofs.Meanings.{again_is, bits_due, found_is, same_images, told_note, zeros_are}
 
 -- ---- a call that does nothing
@@ -87,10 +91,6 @@ stays_noted sound old new bytes result w = record {
   faults = w.cause.later;
 }
 
--- the half behind the note: it has left, and gave its entries up
-abbrev pub half_left : SenderHalf → ℕ → Queue → SenderHalf
-half_left h mark queue = record h { note = record h.note { state = Logging; mark = mark }; session = left h.session Logging; queue = queue }
-
 left_done : (below new : BelowSeen) (h : SenderHalf) (mark : ℕ) (q : Queue) → new.images ≡ below.images → sender_of (held new (half_left h mark q)) ≡ left_sender (sender_of (held below h))
 left_done below new h mark q images = λ i. record (left_sender (sender_of (held below h))) { images = same_images h.sets new.images below.images images i; due = sym (zeros_are h) i }
 
@@ -122,13 +122,14 @@ leaves_ok sound sound_new below new h mark q u on limits p sounds = record {
 }
 
 -- where that fails, the note is the old or the new one
-over_noted : (below new : BelowSeen) (h : SenderHalf) → new.sizes ≡ below.sizes → IsOver below h → IsOver new h
+pub over_noted : (below new : BelowSeen) (h : SenderHalf) → new.sizes ≡ below.sizes → IsOver below h → IsOver new h
 over_noted below new h sizes over = record {
   each = λ set there. let v = over.each set there in record {
     there = rw sizes v.there;
     small = rw sizes v.small;
     segs = rw sizes v.segs;
   };
+  apart = over.apart;
 }
 
 pub leaves_err : {T E : Type 0} (sound sound_new : Type 0) (below new : BelowSeen) (h : SenderHalf) (mark : ℕ) (e : E) → is_session h.session.state ≡ true → h.session.number ≡ h.note.session → IsOver below h
@@ -164,3 +165,39 @@ pub found_left : (sound : Type 0) (below : BelowSeen) (h : SenderHalf) → h.ses
 found_left sound below h number over st =
     ap (λ (m : Note). found_by m (parts_of (held below h))) (again_is below below.note h.note st.stored st.note)
     ∙ found_is below below h h.note (sym number) refl refl refl st.bits over
+
+-- the parts of a sender in step are those of a half that has left
+pub found_parts : {B : Type 0} (seen : B → BelowSeen) (sound : B → Type 0) (below : B) (inside h : SenderHalf) (s : SenderOf B) (p : SenderParts) → inside ≡ h → record { below = below; half = h } ≡ s → IsKept inside → IsOver (seen below) h
+    → p ≡ parts_of (held (seen below) inside) → IsSenderInStep (sound s.below) (seen_of seen s) → found_again p ≡ found_of (sender_of (seen_of seen s))
+found_parts {B = B} seen sound below inside h s p half is kept over same =
+    subst (λ (t : SenderOf B). IsSenderInStep (sound t.below) (seen_of seen t) → found_again p ≡ found_of (sender_of (seen_of seen t))) is
+    (λ step. ap (λ (q : SenderParts). found_again q) (same ∙ ap (λ (x : SenderHalf). parts_of (held (seen below) x)) half)
+    ∙ found_left (sound below) (seen below) h (subst (λ (x : SenderHalf). x.session.number ≡ x.note.session) half kept.session.number) over step)
+
+-- the note with which a half leaves keeps the rules of notes
+any_logging : (r : HalfRole) → may_be r Logging ≡ true
+any_logging Lone = refl
+any_logging Sender = refl
+any_logging Receiver = refl
+
+mark_small : (b : Bool) (mark : ℕ) → mark ≤ 2 ^ 62 → cond b mark 0 ≤ 2 ^ 62
+mark_small true mark le = le
+mark_small false mark le = omega arith
+
+pub left_keeps : (h : SenderHalf) → IsKept h → NoteKeeps (left_note h.note (known_mark h.session))
+left_keeps h kept = record {
+  session = kept.note.session;
+  state = any_logging h.note.role;
+  mark = mark_small (nat_le h.session.mark h.session.known) h.session.mark kept.session.mark;
+}
+
+-- a leaving that failed
+pub leaves_stopped : {B T E : Type 0} (seen : B → BelowSeen) (sound : B → Type 0) (below new : B) (h : SenderHalf) (s : SenderOf B) (n : Note) (r : Result T E) (e : E)
+    → record { below = below; half = h } ≡ s → r ≡ Err e → n ≡ left_note h.note (known_mark h.session) → is_session h.session.state ≡ true → IsKept h → IsOver (seen below) h
+    → PutsNote {T = T} (sound below) (seen below) n (Err e) (seen new)
+    → Leaves (sound s.below) (sound new) (seen_of seen s) r (held (seen new) h)
+leaves_stopped {B = B} {T = T} {E = E} seen sound below new h s n r e is failed note on kept over p =
+    subst (λ (t : SenderOf B). Leaves (sound t.below) (sound new) (seen_of seen t) r (held (seen new) h)) is
+    (subst (λ (x : Result T E). Leaves (sound below) (sound new) (held (seen below) h) x (held (seen new) h)) (sym failed)
+    (leaves_err (sound below) (sound new) (seen below) (seen new) h (known_mark h.session) e on kept.session.number over
+    (subst (λ (m : Note). PutsNote {T = T} (sound below) (seen below) m (Err e) (seen new)) note p)))

@@ -51,6 +51,7 @@ module _ (p : SenderParts) (limits : Limits) (n : Note) (sets : List SetBits) (p
       small = subst (λ (m : MirrorSet). size_of p.below m.vol ≤ 2 ^ 31) (part_found set) own.small;
       segs = (opened set there).segs;
     };
+    apart = λ set other there also same. (loadable.own set (omega (arith, there, count))).volume other (omega (arith, also, count)) (ap (λ (m : MirrorSet). m.vol) (part_found other) ∙ same ∙ ap (λ (m : MirrorSet). m.vol) (sym (part_found set)));
   }
 
   in_step : AreToldParts p → AreInStep sets
@@ -80,6 +81,7 @@ module _ (p : SenderParts) (limits : Limits) (n : Note) (sets : List SetBits) (p
     parts_are = parts_found;
     limits_are = o.queue_is.limits_are;
     note = is;
+    session = refl;
     means = λ told. sym found_same
         ∙ sym (found_is p.below p.below (half_found p.host p.land n sets places queue) n refl refl refl refl (in_step told) over)
         ∙ ap (found_by n) parts_found
@@ -105,6 +107,11 @@ module _ (p : SenderParts) (limits : Limits) (n : Note) (sets : List SetBits) (p
   pub kept : IsKept (half_found p.host p.land n sets places queue)
   kept = record {
     count = ap (λ (l : List SetPlaces). length l) o.places_are ∙ length-map (map (λ s. s.vol) sets) (λ vol. no_places_for limits.writes (seg_count (size_of p.below vol))) ∙ length-map sets (λ s. s.vol);
+    few = omega (arith, count, loadable.few);
+    slots = record {
+      low = λ set there. subst (λ (m : MirrorSet). m.slot < 16) (part_found set) (loadable.own set (omega (arith, there, count))).slot;
+      apart = λ set other there also same. (loadable.own set (omega (arith, there, count))).slots other (omega (arith, also, count)) (ap (λ (m : MirrorSet). m.slot) (part_found other) ∙ same ∙ ap (λ (m : MirrorSet). m.slot) (sym (part_found set)));
+    };
     places = λ set there. subst (λ (q : SetPlaces). ArePlacesOf (set_at sets set) queue.limits.writes q) (sym (place_found set there)) (record {
       segs = length-replicate (seg_count (size_of p.below (set_at sets set).vol)) 0 ∙ sym (opened set there).segs;
       waiting = length-replicate (seg_count (size_of p.below (set_at sets set).vol)) false ∙ sym (opened set there).segs;
@@ -120,7 +127,8 @@ module _ (p : SenderParts) (limits : Limits) (n : Note) (sets : List SetBits) (p
       known = omega arith;
       mark = is.keeps.mark;
       role = λ on. absurd (cc);
+      acting = λ on. absurd (cc);
       idle = λ received. refl;
     };
-    queue = λ on. absurd (cc);
+    sends = λ on. absurd (cc);
   }

@@ -11,16 +11,16 @@ use Rattle.avs_seg.specs.Image.{Image}
 use Rattle.avs_seg.specs.Segment.{seg_count}
 use Rattle.avs_dev.specs.Below.{BelowSeen, IsNoteTold}
 use Rattle.avs_bits.specs.Bit.{disk_bit}
-use Rattle.avs_bits.specs.BitSet.{set_of, place}
+use Rattle.avs_bits.specs.BitSet.{set_of, place, IsOnDisk}
 use Rattle.avs_mirrors.specs.Entries.{Images}
 use Rattle.avs_mirrors.specs.Due.{Due, zero_of, zeros}
 use Rattle.avs_mirrors.specs.Half.{Logging, no_sets}
 use Rattle.avs_sync.specs.Note.{IsNote, note_at}
 use Rattle.avs_sync.specs.declared.note.Note.{Note}
 use Rattle.avs_sync.proofs.Notes.{note_at-is}
-use Rattle.avs_halves.specs.SetBits.{SetBits, AreInStep, set_at, has_bit, part_of, no_set}
+use Rattle.avs_halves.specs.SetBits.{SetBits, AreInStep, set_at, disk_at, has_bit, part_of, no_set}
 use Rattle.avs_sender.specs.Held.{SenderHalf, held, parts_of}
-use Rattle.avs_sender.specs.Meaning.{freeing_place, places_at, due_of, due_found, bit_found, is_filled, found_by, found_of, stored_bytes, sender_of}
+use Rattle.avs_sender.specs.Meaning.{freeing_place, places_at, segs_of, due_of, due_found, bit_found, is_filled, found_by, found_of, stored_bytes, sender_of}
 use Rattle.avs_sender.specs.Over.{IsOver}
 
 -- ---- what is due of a half that left
@@ -72,16 +72,20 @@ bit_is true disk memory seg count segs same none step = rw (← same refl) (elim
 ])
 bit_is false disk memory seg count segs same none step = rw (none refl) (none_low seg memory)
 
-found_bit : (new : BelowSeen) (h : SenderHalf) → AreInStep h.sets → IsOver new h → (set seg : ℕ) → bit_found (parts_of (held new h)) set seg ≡ has_bit (set_at h.sets set) seg
-found_bit new h step over set seg =
+-- the bits that the disks hold are found
+pub found_held : (new : BelowSeen) (h : SenderHalf) (bits : ℕ → ℕ → Bool) → ((set : ℕ) → IsOnDisk (disk_at h.sets set).image (segs_of h set) (bits set)) → IsOver new h → (set seg : ℕ) → bit_found (parts_of (held new h)) set seg ≡ (nat_lt seg (segs_of h set) && bits set seg)
+found_held new h bits on_disk over set seg =
     (λ i. (there_is h.sets set i && nat_lt seg (seg_count (get_or new.sizes (part_is h.sets set i).vol 0))) && disk_bit (part_is h.sets set i).bits.image (place seg))
-    ∙ bit_is (nat_lt set (length h.sets)) (disk_bit m.bits.disk.image (place seg)) (set_of m.bits seg) seg (seg_count (get_or new.sizes m.vol 0)) m.bits.segs
+    ∙ bit_is (nat_lt set (length h.sets)) (disk_bit m.bits.disk.image (place seg)) (bits set seg) seg (seg_count (get_or new.sizes m.vol 0)) m.bits.segs
     (λ there. (over.each set (below_is set (length h.sets) there)).segs)
     (λ none. ap (λ (s : SetBits). s.bits.segs) (get_or_past h.sets set no_set (behind_is set (length h.sets) none)))
-    (λ there low. (step.step set).each seg low)
+    (λ there low. (on_disk set).each seg low)
   where
     m : SetBits
     m = set_at h.sets set
+
+found_bit : (new : BelowSeen) (h : SenderHalf) → AreInStep h.sets → IsOver new h → (set seg : ℕ) → bit_found (parts_of (held new h)) set seg ≡ has_bit (set_at h.sets set) seg
+found_bit new h step over set seg = found_held new h (λ t s. set_of (set_at h.sets t).bits s) (λ t. step.step t) over set seg
 
 -- the note on the disk of a half in step
 pub again_is : (below : BelowSeen) (bytes : List ℕ) (n : Note) → below.stored ≡ Some bytes → IsNote bytes n → note_at (stored_bytes below) ≡ n

@@ -34,6 +34,14 @@ pub record SenderHeld : Type 0 where
 abbrev pub held : BelowSeen → SenderHalf → SenderHeld
 held below half = record { below = below; half = half }
 
+-- a sender as its contracts see it: what lies below it, itself, and its half
+pub record SenderOf (B : Type 0) : Type 0 where
+  pub below : B
+  pub half : SenderHalf
+
+abbrev pub seen_of : {B : Type 0} → (B → BelowSeen) → SenderOf B → SenderHeld
+seen_of seen s = held (seen s.below) s.half
+
 -- what a sender is made of, and is taken apart into
 pub record SenderParts : Type 0 where
   pub host : Host

@@ -4,7 +4,9 @@ use Rattle.avs_model.specs.declared.half.State.TheVariants.{Logging}
 use Rattle.avs_mirrors.specs.Half.{left_sender}
 use Rattle.avs_sync.specs.Session.{left}
 use Rattle.avs_sync.specs.declared.session.Session.{Session}
-use Rattle.avs_sender.specs.Held.{SenderHeld, parts_of}
+use Rattle.avs_mqueue.specs.Queue.{Queue}
+use Rattle.avs_sync.specs.declared.note.Note.{Note}
+use Rattle.avs_sender.specs.Held.{SenderHalf, SenderHeld, parts_of}
 use Rattle.avs_sender.specs.Meaning.{IsSenderInStep, sender_of, found_of, found_again}
 use Rattle.avs_sender.specs.Going.{SenderStays, NoneFailed, BelowFailed}
 
@@ -23,6 +25,13 @@ pub record Leaves {T E : Type 0} (sound sound_new : Type 0) (old : SenderHeld) (
   pub step : IsSenderInStep sound old → OnOk result (IsSenderInStep sound_new new)
   pub stopped : IsSenderInStep sound old → OnErr result (found_again (parts_of new) ≡ found_of (sender_of old))
   pub idle : old.half.session.state ≡ Logging → DidNothing old result new
+
+-- the note of a half that has left, with the mark that it says; and the half behind it, which gave its entries up
+abbrev pub left_note : Note → ℕ → Note
+left_note n mark = record n { state = Logging; mark = mark }
+
+abbrev pub half_left : SenderHalf → ℕ → Queue → SenderHalf
+half_left h mark queue = record h { note = left_note h.note mark; session = left h.session Logging; queue = queue }
 
 -- the mark that a note says: one that is known as applied
 abbrev pub known_mark : Session → ℕ

@@ -7,3 +7,5 @@ pub mod Leaving
 pub mod Places
 pub mod PartsView
 pub mod Loading
+pub mod SenderView
+pub mod Asking

@@ -66,6 +66,11 @@ pub record IsEmptyQueue (limits : Limits) (queue : Queue) : Type 0 where
   pub none : queue.entries ≡ []
   pub limits_are : queue.limits ≡ limits
 
+-- what a half has in memory for its sets
+pub record MakesMemory (below : BelowSeen) (sets : List SetBits) (limits : Limits) (places : List SetPlaces) (queue : Queue) : Type 0 where
+  pub places_are : PlacesFor below (map (λ s. s.vol) sets) limits.writes places
+  pub queue_is : IsEmptyQueue limits queue
+
 -- sets as they are found, with places for their segments and an empty queue
 pub record OpensHalf (below : BelowSeen) (parts : List MirrorSet) (limits : Limits) (sets : List SetBits) (places : List SetPlaces) (queue : Queue) : Type 0 where
   pub sets_are : LoadsSets below.sizes parts sets
@@ -81,6 +86,7 @@ pub record Loads (sound : Type 0) (p : SenderParts) (limits : Limits) (new : Sen
   pub parts_are : parts_of new ≡ p
   pub limits_are : new.half.queue.limits ≡ limits
   pub note : IsNote p.below.note new.half.note
+  pub session : new.half.session ≡ found_session new.half.note
   pub means : AreToldParts p → sender_of new ≡ found_on p
   pub step : sound → AreToldParts p → IsSenderInStep sound new
 

@@ -37,6 +37,10 @@ places_at h set = slice_index_or h.places set no_places
 abbrev pub due_of : SenderHalf → Due
 due_of h set seg = if has_bit (set_at h.sets set) seg then Some (freeing_place h.session (places_at h set) seg) else None
 
+-- how many segments a set has
+abbrev pub segs_of : SenderHalf → ℕ → ℕ
+segs_of h set = (set_at h.sets set).bits.segs
+
 abbrev pub has_set : SenderHalf → Sets
 has_set h set = nat_lt set (length h.sets)
 

@@ -11,5 +11,7 @@ pub record HasVolume (below : BelowSeen) (m : SetBits) : Type 0 where
   pub small : size_of below m.vol ≤ 2 ^ 31
   pub segs : m.bits.segs ≡ seg_count (size_of below m.vol)
 
+-- and no two sets have one volume
 pub record IsOver (below : BelowSeen) (h : SenderHalf) : Type 0 where
   pub each : (set : ℕ) → set < length h.sets → HasVolume below (set_at h.sets set)
+  pub apart : (set other : ℕ) → set < length h.sets → other < length h.sets → (set_at h.sets other).vol ≡ (set_at h.sets set).vol → other ≡ set

@@ -1,2 +1,10 @@
-//! The sending half of a mirror group: what it stands for, how it is found on its parts, and how it leaves. All of it in `specs/` and `proofs/`.
+//! The sending half of a mirror group: what it stands for, and what it tells of itself.
 #![tactic(auto)]
+
+mod asking;
+mod half;
+mod sender;
+mod tracked;
+
+pub use asking::Settled;
+pub use sender::Sender;
