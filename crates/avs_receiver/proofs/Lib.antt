@@ -1,0 +1,11 @@
+pub mod Meanings
+pub mod Leavings
+pub mod Askings
+pub mod Slotting
+pub mod Writings
+pub mod Written
+pub mod Stopped
+pub mod Landings
+pub mod Applications
+pub mod Happened
+pub mod Nexts

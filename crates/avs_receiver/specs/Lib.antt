@@ -1,0 +1,12 @@
+pub mod Held
+pub mod Over
+pub mod Meaning
+pub mod Slots
+pub mod Going
+pub mod Refusing
+pub mod Asking
+pub mod Leaving
+pub mod Writing
+pub mod PartsView
+pub mod Marking
+pub mod Applying

@@ -1,0 +1,36 @@
+-- Why a call of a receiver is refused before it touches a disk: then nothing has changed.
+use Rattle.std.specs.Prelude.{◌≡◌, ℕ, ◌≤◌, false}
+use Rattle.avs_model.specs.declared.answer.Refusal.{Refusal}
+use Rattle.avs_model.specs.declared.answer.Refusal.TheVariants as refusal
+use Rattle.avs_model.specs.declared.answer.Word.{Word}
+use Rattle.avs_model.specs.declared.answer.Word.TheVariants as word
+use Rattle.avs_model.specs.declared.half.State.{State}
+use Rattle.avs_model.specs.declared.half.State.TheVariants.{Logging, Syncing, Receiving, Replicating, Queuing}
+use Rattle.avs_mirrors.specs.Half.{no_sets}
+use Rattle.avs_receiver.specs.Held.{ReceiverHeld}
+use Rattle.avs_receiver.specs.Meaning.{receiver_of}
+
+-- the word that a state is told by
+abbrev pub word_of : State → Word
+word_of Logging = word.Logging
+word_of Syncing = word.Syncing
+word_of Receiving = word.Receiving
+word_of Replicating = word.Replicating
+word_of Queuing = word.Queuing
+
+-- asked into a session whose number is not greater than its own
+pub record IsNotLater (old : ReceiverHeld) (session : ℕ) (why : Refusal) (new : ReceiverHeld) : Type 0 where
+  pub answer : why ≡ refusal.Stale old.half.note.session session
+  pub low : session ≤ old.half.note.session
+  pub kept : new ≡ old
+
+-- told by the word of its state: it is in a session where it may not be, or in none where it has to be
+pub record IsWrongState (old : ReceiverHeld) (why : Refusal) (new : ReceiverHeld) : Type 0 where
+  pub answer : why ≡ refusal.WrongState (word_of (receiver_of no_sets old).state)
+  pub kept : new ≡ old
+
+-- a set has no contents
+pub record HasNoContents (old : ReceiverHeld) (set : ℕ) (why : Refusal) (new : ReceiverHeld) : Type 0 where
+  pub answer : why ≡ refusal.NoContents
+  pub none : (receiver_of no_sets old).contents set ≡ false
+  pub kept : new ≡ old
