@@ -11,11 +11,14 @@ use Rattle.avs_compact.specs.Entries.{entry_in, entry_for, state_by, slot_by}
 use Rattle.avs_compact.specs.CompactSet.{disk_of}
 use Rattle.avs_compact.specs.Slots.{IsKept, IsClean, Marks, MarksSlot, ArePassed}
 use Rattle.avs_compact.specs.Steps.{TakesSlot, PutsEntry}
+use Rattle.avs_compact.specs.Tallied.{AreTallied, Changes}
 use Rattle.avs_compact.specs.declared.marks.Counts.{Counts}
+use Rattle.avs_compact.specs.declared.tally.Tally.{Tally}
 use Rattle.avs_compact.proofs.Kept.{kept_more, kept_all}
 use Rattle.avs_compact.proofs.Placed.{SetsOne, marks_new, marks_old, passed_new, passed_old}
 use Rattle.avs_compact.proofs.Settled.{IsNewEntry, target_some}
 use Rattle.avs_compact.proofs.SettlingNew.{new_entry}
+use Rattle.avs_compact.proofs.Tallied.{tally_set, reach_same, reach_none}
 
 none_some : (d : Seen) → None ≡ Some d → ⊥
 none_some d e = cc
@@ -105,6 +108,14 @@ module _ (memory M' : List ℕ) (chunk target slot n : ℕ) (puts : PutsEntry me
 
   pub clean_again : IsClean memory n → IsClean M' n
   clean_again p = record { each = λ c past. puts.others c (λ e. omega (arith, e, past, there)) ∙ p.each c past }
+
+  -- in a slot that the chunk had, or in one that was taken
+  pub had_tally : (own : ℕ) → entry_in memory chunk ≢ 0 → slot ≡ slot_by (entry_in memory chunk) → (a b : Tally) → AreTallied (entry_in memory) own n a → Changes a own (entry_in memory chunk) (entry_for target slot) b → AreTallied (entry_in M') own n b
+  had_tally own some is a b p q = tally_set (entry_in memory) (entry_in M') own n chunk (entry_in memory chunk) (entry_for target slot) there puts.others refl puts.now
+      (reach_same own (entry_in memory chunk) (entry_for target slot) some is_new.some (is_new.slot_is ∙ is)) a b p q
+
+  pub took_tally : (own : ℕ) → entry_in memory chunk ≡ 0 → (a b : Tally) → AreTallied (entry_in memory) own n a → Changes a own 0 (entry_for target slot) b → AreTallied (entry_in M') own n b
+  took_tally own none a b p q = tally_set (entry_in memory) (entry_in M') own n chunk 0 (entry_for target slot) there puts.others none puts.now (let r = reach_none own 0 (inl refl) in omega (arith, r)) a b p q
 
   module _ (own : ℕ) (T : Owners) (counts : Counts) (low ahead due : ℕ) (marks : Marks (entry_in memory) own n T counts) (passed : ArePassed (entry_in memory) n T low ahead due) where
     -- in a slot that the chunk had

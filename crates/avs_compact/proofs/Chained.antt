@@ -3,18 +3,23 @@ use Rattle.std.proofs.Common.{◌≡◌, ◌≢◌, ◌⊎◌, inl, inr, ℕ, ze
 use Rattle.std.proofs.lemmas.Bool.{cases_lt, cases_eq, false≢true}
 use Rattle.std.proofs.lemmas.Result.{on_ok_weaker, on_err_weaker}
 use Rattle.avs_seg.specs.declared.fault.Failed.{Failed}
+use Rattle.avs_seg.specs.Segment.{seg_len}
+use Rattle.avs_seg.proofs.Exits.{ok_exit, err_exit}
 use Rattle.avs_dev.specs.Seen.{Seen}
 use Rattle.avs_dev.proofs.Going.{all_then, all_same, all_err}
 use Rattle.avs_over.specs.Over.{OverSet}
 use Rattle.avs_compact.specs.Entries.{state_by, slot_by}
 use Rattle.avs_compact.specs.CompactSet.{CompactSet, entry_of, disk_entry, chunks_of, need_of, room_of}
-use Rattle.avs_compact.specs.Disks.{Master, Bitmap, Over, disk_at}
+use Rattle.avs_compact.specs.Disks.{CompactDisk, Master, Bitmap, Over, disk_at}
+use Rattle.avs_compact.specs.Work.{settled_work, settled_most, save_work, save_most, saved_work, saved_most}
 use Rattle.avs_compact.specs.Calls.{IsKnown}
 use Rattle.avs_compact.specs.Places.{ArePlaced, OnlyTakes, KeepsOver, SetsEntry, AreSame, Splits}
-use Rattle.avs_compact.specs.Keeping.{IsPlaced, KeepsBlocks, KeepsSlots, KeepsSet, CountsSlots, Settles, DoesNothing}
+use Rattle.avs_compact.specs.Keeping.{IsPlaced, OwnFirst, KeepsBlocks, KeepsSlots, KeepsSet, CountsSlots, Settles, DoesNothing}
 use Rattle.avs_compact.specs.Saving.{SavesOne, SavesAll, lacking, need_with}
 use Rattle.avs_compact.proofs.Counts.{count_from, cond_is, cond_not}
+use Rattle.avs_compact.proofs.Work.{up_to_none, up_to_as, up_to_then, save_less, sum_one, sum_more, sum_same, sum_below, sum_longer}
 use Rattle.avs_compact.proofs.Placed.{stays, placed_same, only_takes_none, only_takes_then}
+use Rattle.avs_compact.proofs.OwnFirst.{first_same}
 use Rattle.avs_compact.proofs.Settled.{zero_state}
 
 -- ---- nothing is done
@@ -36,12 +41,13 @@ blocks_nothing s o m kn p = record {
 
 pub keeps_nothing : {T E : Type 0} (s : CompactSet) (o : OverSet) (m : Seen) (x : T) → KeepsSet {E = E} s o m (Ok x) s o m
 keeps_nothing s o m x = record {
-  shape = record { set = refl; own = refl; blocks = refl; there = refl; first = refl; len = refl; live_b = refl; next = refl };
+  shape = record { set = refl; own = refl; blocks = refl; there = refl; areas = (refl, refl); live_b = refl; next = refl; ahead = refl };
   goes = all_same (disk_at s o m) x;
   bitmap = λ told. record { label = refl; staged = refl; clean = λ zeros. zeros };
   slots = slots_nothing s o;
   over = λ p told. record { label = refl; slots = λ k i lt ne. refl };
   blocks = λ kn p td. blocks_nothing s o m kn p;
+  own_first = λ kn first. first_same (entry_of s) (disk_entry s) s.own (chunks_of s) s.ahead (λ c lt. sym (kn.step.each c lt)) first;
 }
 
 pub counts_nothing : (s : CompactSet) (o : OverSet) → CountsSlots s o 0 s o
@@ -95,10 +101,10 @@ module _ (a b d : CompactSet) (o o1 o2 : OverSet) (m m1 m2 : Seen) {T E T' E' : 
       own = q.shape.own ∙ p.shape.own;
       blocks = q.shape.blocks ∙ p.shape.blocks;
       there = q.shape.there ∙ p.shape.there;
-      first = q.shape.first ∙ p.shape.first;
-      len = q.shape.len ∙ p.shape.len;
+      areas = (q.shape.areas.0 ∙ p.shape.areas.0, q.shape.areas.1 ∙ p.shape.areas.1);
       live_b = q.shape.live_b ∙ p.shape.live_b;
       next = q.shape.next ∙ p.shape.next;
+      ahead = q.shape.ahead ∙ p.shape.ahead;
     };
     goes = all_then (disk_at a o m) (disk_at b o1 m1) (disk_at d o2 m2) x r p.goes q.goes;
     bitmap = λ told.
@@ -108,6 +114,9 @@ module _ (a b d : CompactSet) (o o1 o2 : OverSet) (m m1 m2 : Seen) {T E T' E' : 
     slots = slots_then a b d o o1 o2 p.shape.set p.slots q.slots;
     over = λ placed told. over_then a.set b.set o o1 o2 p.shape.set q.slots.owners (p.over placed told) (q.over (p.slots.placed placed) ((p.goes.lasts Over).told told));
     blocks = λ kn placed td. blocks_then a b d o o1 o2 m m1 m2 p.shape.set p.shape.own p.shape.blocks (p.blocks kn placed td) (q.blocks (known kn) (p.slots.placed placed) ((p.goes.lasts Master).told td));
+    own_first = λ kn first. subst (λ (n : ℕ). OwnFirst (disk_entry d) n (chunks_of a) a.ahead) p.shape.own
+        (subst (λ (n : ℕ). OwnFirst (disk_entry d) b.own ((n + 63) / 64) a.ahead) p.shape.blocks
+        (subst (λ (n : ℕ). OwnFirst (disk_entry d) b.own (chunks_of b) n) p.shape.ahead (q.own_first (known kn) (p.slots.own_first first))));
   }
 
 pub counts_then : (a b d : CompactSet) (o o1 o2 : OverSet) (v w : ℕ) → CountsSlots a o v b o1 → CountsSlots b o1 w d o2 → CountsSlots a o (v + w) d o2
@@ -118,10 +127,10 @@ counts_as a b o o1 v w is p = subst (λ (k : ℕ). CountsSlots a o k b o1) is p
 
 -- the same whatever is answered beside
 pub keeps_err : {T E T' E' : Type 0} (s s' : CompactSet) (o o' : OverSet) (m m' : Seen) (e : E) (e' : E') → KeepsSet {T = T} s o m (Err e) s' o' m' → KeepsSet {T = T'} s o m (Err e') s' o' m'
-keeps_err s s' o o' m m' e e' p = record { shape = p.shape; goes = all_err (disk_at s o m) (disk_at s' o' m') e e' p.goes; bitmap = p.bitmap; slots = p.slots; over = p.over; blocks = p.blocks }
+keeps_err s s' o o' m m' e e' p = record { shape = p.shape; goes = all_err (disk_at s o m) (disk_at s' o' m') e e' p.goes; bitmap = p.bitmap; slots = p.slots; over = p.over; blocks = p.blocks; own_first = p.own_first }
 
 pub keeps_ok : {T E T' E' : Type 0} (s s' : CompactSet) (o o' : OverSet) (m m' : Seen) (x : T) (x' : T') → KeepsSet {E = E} s o m (Ok x) s' o' m' → KeepsSet {E = E'} s o m (Ok x') s' o' m'
-keeps_ok s s' o o' m m' x x' p = record { shape = p.shape; goes = record { lasts = p.goes.lasts; done = p.goes.done; failed = tt }; bitmap = p.bitmap; slots = p.slots; over = p.over; blocks = p.blocks }
+keeps_ok s s' o o' m m' x x' p = record { shape = p.shape; goes = record { lasts = p.goes.lasts; done = p.goes.done; failed = tt }; bitmap = p.bitmap; slots = p.slots; over = p.over; blocks = p.blocks; own_first = p.own_first }
 
 -- ---- how many chunks of a range have no slot
 
@@ -166,9 +175,16 @@ lacking_one s c =
     let none : lacking s c 0 ≡ 0 = refl in
     omega (arith, lacking_more s c 0, here, none)
 
+-- what is written of one chunk
+abbrev saves : CompactSet → CompactSet → CompactDisk → ℕ → ℕ
+saves s new d c = save_work s.own (state_by (entry_of s c)) (slot_by (entry_of new c)) (seg_len c s.blocks) d
+
+abbrev saves_most : CompactSet → CompactDisk → ℕ → ℕ
+saves_most s d c = save_most (state_by (entry_of s c)) (seg_len c s.blocks) d
+
 module _ (s s' : CompactSet) (o o' : OverSet) (m m' : Seen) (c : ℕ) (there : c < chunks_of s) where
-  settled_one : {T E : Type 0} (r : Result T E) → Settles s o m c 2 r s' o' m' → SavesAll s o m c 1 r s' o' m'
-  settled_one r p = record {
+  settled_one : {T E : Type 0} (r : Result T E) → state_by (entry_of s c) ≢ 2 → Settles s o m c 2 r s' o' m' → SavesAll s o m c 1 r s' o' m'
+  settled_one r whole p = record {
     keeps = p.keeps;
     done = λ kn. on_ok_weaker r (splits_one (disk_entry s) (disk_entry s') (chunks_of s) c there) (p.done kn);
     stopped = λ kn. on_err_weaker r (λ e. elim e [
@@ -178,6 +194,9 @@ module _ (s s' : CompactSet) (o o' : OverSet) (m m' : Seen) (c : ℕ) (there : c
     known = p.known;
     memory = on_ok_weaker r (splits_one (entry_of s) (entry_of s') (chunks_of s) c there) p.memory;
     counts = on_ok_weaker r (counts_as s s' o o' (cond (eqb (entry_of s c) 0) 1 0) (lacking s c 1) (sym (lacking_one s c))) p.counts;
+    work = up_to_as (disk_at s o m) (disk_at s' o' m') (settled_work s s' c) (saved_work s s' c 1) (settled_most s c) (saved_most s c 1) r
+        (ok_exit r (λ d. sym (sum_one (saves s s' d) c ∙ cond_not (state_by (entry_of s c)) 2 0 (settled_work s s' c d) whole)))
+        (err_exit r (λ d. (let e = sum_one (saves_most s d) c ∙ cond_not (state_by (entry_of s c)) 2 0 (settled_most s c d) whole in omega (arith, e)))) p.work;
   }
 
 state_zero_two : (e : ℕ) → state_by e ≡ 2 → e ≢ 0
@@ -191,12 +210,13 @@ nothing_one s o m c x there is = record {
   known = λ kn. kn;
   memory = record { inside = λ k lt low high. (let same : k ≡ c = omega (arith, low, high) in ap (λ (j : ℕ). state_by (entry_of s j)) same) ∙ is; slots = λ k lt some. refl; outside = λ k lt out. refl };
   counts = counts_as s s o o 0 (lacking s c 1) (sym (lacking_one s c ∙ cond_not {A = ℕ} (entry_of s c) 0 1 0 (state_zero_two (entry_of s c) is))) (counts_nothing s o);
+  work = up_to_none (disk_at s o m) (saved_work s s c 1) (saved_most s c 1) x (λ d. sum_one (saves s s d) c ∙ cond_is (state_by (entry_of s c)) 2 0 (settled_work s s c d) is);
 }
 
 pub saves_one : {T E : Type 0} (s s' : CompactSet) (o o' : OverSet) (m m' : Seen) (c : ℕ) (r : Result T E) → c < chunks_of s → SavesOne s o m c r s' o' m' → SavesAll s o m c 1 r s' o' m'
 saves_one s s' o o' m m' c r there p = elim (cases_eq (state_by (entry_of s c)) 2) [
   | inl is ↦ none r (p.nothing is).0 (p.nothing is).1 is
-  | inr whole ↦ settled_one s s' o o' m m' c there r (p.settles whole)
+  | inr whole ↦ settled_one s s' o o' m m' c there r whole (p.settles whole)
 ]
   where
     none : {T E : Type 0} (q : Result T E) → IsOk q → DoesNothing s o m s' o' m' → state_by (entry_of s c) ≡ 2 → SavesAll s o m c 1 q s' o' m'
@@ -216,6 +236,7 @@ saves_none s o m first = record {
   known = λ kn. kn;
   memory = record { inside = λ k lt low high. absurd (omega (arith, low, high)); slots = λ k lt some. refl; outside = λ k lt out. refl };
   counts = counts_nothing s o;
+  work = up_to_none (disk_at s o m) (saved_work s s first 0) (saved_most s first 0) tt (λ d. refl);
 }
 
 -- an entry that tells a split chunk, or is as before, has a slot where it had one
@@ -256,6 +277,22 @@ module _ (s now new : CompactSet) (o on o' : OverSet) (m mn m' : Seen) (first n 
   work_then : lacking s first n + lacking now (first + n) 1 ≡ lacking s first (n + 1)
   work_then = ap (λ (k : ℕ). lacking s first n + k) (lacking_one now (first + n) ∙ ap (λ (k : ℕ). cond (eqb k 0) 1 0) still) ∙ sym (lacking_more s first n)
 
+  -- what is written of all of them
+  blocks_then_one : Splits (entry_of now) (entry_of new) (chunks_of now) (first + n) (first + n + 1) → (d : CompactDisk) → saved_work s now first n d + saved_work now new (first + n) 1 d ≡ saved_work s new first (n + 1) d
+  blocks_then_one one d =
+      let before = sum_same (saves s now d) (saves s new d) first n (λ c low lt. ap (λ (e : ℕ). save_work s.own (state_by (entry_of s c)) (slot_by e) (seg_len c s.blocks) d) (one.outside c (omega (arith, lt, there, so.keeps.shape.blocks)) (inl lt))) in
+      let last : saves now new d (first + n) ≡ saves s new d (first + n) =
+      ap (λ (k : ℕ). save_work k (state_by (entry_of now (first + n))) (slot_by (entry_of new (first + n))) (seg_len (first + n) now.blocks) d) so.keeps.shape.own
+      ∙ ap (λ (k : ℕ). save_work s.own (state_by k) (slot_by (entry_of new (first + n))) (seg_len (first + n) now.blocks) d) still
+      ∙ ap (λ (k : ℕ). save_work s.own (state_by (entry_of s (first + n))) (slot_by (entry_of new (first + n))) (seg_len (first + n) k) d) so.keeps.shape.blocks in
+      omega (arith, before, last, sum_one (saves now new d) (first + n), sum_more (saves s new d) first n)
+
+  most_then_one : (d : CompactDisk) → saved_most s first n d + saved_most now (first + n) 1 d ≡ saved_most s first (n + 1) d
+  most_then_one d =
+      let last : saves_most now d (first + n) ≡ saves_most s d (first + n) =
+      ap (λ (k : ℕ). save_most (state_by k) (seg_len (first + n) now.blocks) d) still ∙ ap (λ (k : ℕ). save_most (state_by (entry_of s (first + n))) (seg_len (first + n) k) d) so.keeps.shape.blocks in
+      omega (arith, last, sum_one (saves_most now d) (first + n), sum_more (saves_most s d) first n)
+
   then_one : {T E : Type 0} (r : Result T E) → SavesAll now on mn (first + n) 1 r new o' m' → SavesAll s o m first (n + 1) r new o' m'
   then_one r q = record {
     keeps = keeps_then s now new o on o' m mn m' tt r so.keeps q.keeps so.known;
@@ -272,6 +309,10 @@ module _ (s now new : CompactSet) (o on o' : OverSet) (m mn m' : Seen) (first n 
     memory = on_ok_weaker r (λ one. splits_then (entry_of s) (entry_of now) (entry_of new) (chunks_of s) first (first + n) (first + (n + 1)) (omega arith) (omega arith) so.memory
         (splits_as (entry_of now) (entry_of new) (chunks_of s) (chunks_of now) (first + n) (first + n + 1) (first + (n + 1)) count_is more_is one)) q.memory;
     counts = on_ok_weaker r (λ c. counts_as s new o o' (lacking s first n + lacking now (first + n) 1) (lacking s first (n + 1)) work_then (counts_then s now new o on o' (lacking s first n) (lacking now (first + n) 1) so.counts c)) q.counts;
+    work = up_to_as (disk_at s o m) (disk_at new o' m') (λ d. saved_work s now first n d + saved_work now new (first + n) 1 d) (saved_work s new first (n + 1)) (λ d. saved_most s first n d + saved_most now (first + n) 1 d) (saved_most s first (n + 1)) r
+        (on_ok_weaker r blocks_then_one q.memory) (err_exit r (λ d. (let e = most_then_one d in omega (arith, e))))
+        (up_to_then (disk_at s o m) (disk_at now on mn) (disk_at new o' m') (saved_work s now first n) (saved_work now new (first + n) 1) (saved_most s first n) (saved_most now (first + n) 1) tt r
+        (λ d. sum_below (saves s now d) (saves_most s d) first n (λ c. save_less s.own (state_by (entry_of s c)) (slot_by (entry_of now c)) (seg_len c s.blocks) d)) so.work q.work);
   }
 
   here : first + n < chunks_of now
@@ -298,6 +339,7 @@ module _ (s now new : CompactSet) (o on o' : OverSet) (m mn m' : Seen) (first n 
         known = λ kn. tt;
         memory = tt;
         counts = tt;
+        work = record { done = tt; stopped = λ d. omega (arith, t.work.stopped d, sum_longer (saves_most s d) first (n + 1) count (omega (arith, lt))) };
       }
 
 -- the same at an exit by another error
@@ -309,6 +351,7 @@ saves_err s s' o o' m m' first n e e' p = record {
   known = λ kn. tt;
   memory = tt;
   counts = tt;
+  work = record { done = tt; stopped = p.work.stopped };
 }
 
 pub saves_ok : {T E T' E' : Type 0} (s s' : CompactSet) (o o' : OverSet) (m m' : Seen) (first n : ℕ) (x : T) (x' : T') → SavesAll {E = E} s o m first n (Ok x) s' o' m' → SavesAll {E = E'} s o m first n (Ok x') s' o' m'
@@ -319,4 +362,5 @@ saves_ok s s' o o' m m' first n x x' p = record {
   known = p.known;
   memory = p.memory;
   counts = p.counts;
+  work = record { done = p.work.done; stopped = tt };
 }

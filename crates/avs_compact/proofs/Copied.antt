@@ -1,5 +1,5 @@
 -- Blocks that are written in a slot, and a chunk that is copied into one or out of one.
-use Rattle.std.proofs.Common.{◌≡◌, ◌≢◌, ◌⊎◌, inl, inr, ℕ, ◌+◌, ◌-◌, ◌*◌, ◌/◌, ◌<◌, ◌≤◌, Bool, cond, List, length, Result, Ok, Err, IsOk, OnOk, OnErr, refl, sym, ◌∙◌, ap, subst, arith}
+use Rattle.std.proofs.Common.{◌≡◌, ◌≢◌, ◌⊎◌, inl, inr, ℕ, ◌+◌, ◌-◌, ◌*◌, ◌/◌, ◌<◌, ◌≤◌, Bool, cond, eqb, List, length, Result, Ok, Err, IsOk, OnOk, OnErr, refl, sym, ◌∙◌, ap, subst, arith}
 use Rattle.std.proofs.lemmas.Bool.{cases_lt, cases_eq, false≢true, lt-ltb, le-ltb}
 use Rattle.std.proofs.lemmas.Result.{on_ok_weaker, on_err_weaker}
 use Rattle.avs_seg.specs.Image.{Image, Block, block_at, blocks_of, put, IsMix, ChangesWithin}
@@ -14,10 +14,13 @@ use Rattle.avs_dev.proofs.Going.{lasts_same, goes_err, all_then, all_err, all_sa
 use Rattle.avs_over.specs.Over.{OverSet, slot_from}
 use Rattle.avs_compact.specs.Entries.{state_by, slot_by}
 use Rattle.avs_compact.specs.CompactSet.{in_slot}
-use Rattle.avs_compact.specs.Disks.{CompactDisk, four}
+use Rattle.avs_compact.specs.Disks.{CompactDisk, four, Adds}
+use Rattle.avs_compact.specs.Work.{slot_work, out_work, copy_work}
 use Rattle.avs_compact.specs.Calls.{ReadsOne}
 use Rattle.avs_compact.specs.Steps.{OnlySlot, OtherSlots, WritesOne, CopiesIn, CopiesOut, CopiesBack}
+use Rattle.avs_compact.proofs.Counts.{cond_is, cond_not}
 use Rattle.avs_compact.proofs.Going.{master_goes, shadow_goes, over_goes}
+use Rattle.avs_compact.proofs.Work.{each_disk, own_work, over_work, adds_four, adds_same, adds_as, same_written, same_most, now_written, now_most}
 
 -- ---- where a block of a slot stands
 
@@ -82,6 +85,23 @@ module _ (s s' : Seen) (o o' : OverSet) (own slot at : ℕ) (bytes : List ℕ) {
   over_kept = elim (cases_lt slot own) [
     | inl lt ↦ w.over_rest lt ∙ ap (λ (d : Seen). record o { disk = d }) (sym (ap (λ (z : OverSet). z.disk) (w.over_rest lt)))
     | inr past ↦ (w.to_over past).rest
+  ]
+
+  -- so many blocks are written in it
+  pub slot_adds : 0 < length bytes / 512 → (m m' b : Seen) → m'.written ≡ m.written → Adds (four m s b o.disk) (slot_work own slot (length bytes / 512)) r (four m' s' b o'.disk)
+  slot_adds some m m' b read = elim (cases_lt slot own) [
+    | inl lt ↦
+        let k = own_work own slot (length bytes / 512) lt in
+        let over : o'.disk.written ≡ o.disk.written = ap (λ (z : OverSet). z.disk.written) (w.over_rest lt) in
+        adds_four m s b o.disk m' s' b o'.disk (slot_work own slot (length bytes / 512)) r
+        (same_written m m' 0 r read refl) (now_written s s' _ (length bytes / 512) r some k.0 (w.to_own lt).counted) (same_written b b 0 r refl refl) (same_written o.disk o'.disk _ r over k.1)
+        (same_most m m' 0 r read) (now_most s s' _ r (w.to_own lt).uncounted) (same_most b b 0 r refl) (same_most o.disk o'.disk _ r over)
+    | inr past ↦
+        let k = over_work own slot (length bytes / 512) past in
+        let own_same : s'.written ≡ s.written = ap (λ (d : Seen). d.written) (w.shadow_rest past) in
+        adds_four m s b o.disk m' s' b o'.disk (slot_work own slot (length bytes / 512)) r
+        (same_written m m' 0 r read refl) (same_written s s' _ r own_same k.0) (same_written b b 0 r refl refl) (now_written o.disk o'.disk _ (length bytes / 512) r some k.1 (w.to_over past).writes.counted)
+        (same_most m m' 0 r read) (same_most s s' _ r own_same) (same_most b b 0 r refl) (now_most o.disk o'.disk _ r (w.to_over past).writes.uncounted)
   ]
 
   pub slot_goes : (m b : Seen) → AllGoOn (four m s b o.disk) r (four m s' b o'.disk)
@@ -185,12 +205,13 @@ in_unread {T} {E} {T'} {E'} m m' s o own slot at len out q x y is reads =
       only = λ told. record { label = refl; others = λ k i b ne. refl };
       others = λ told_s told_o. record { each = λ k i b ne. refl };
       copied = λ _ _ _. tt;
+      work = λ b. record { done = tt; most = each_disk (λ d. (four m' s b o.disk d).written ≤ (four m s b o.disk d).written + slot_work own slot len d) (let k = ap (λ (d : Seen). d.written) rd.rest in omega (arith, k)) (omega arith) (omega arith) (omega arith) };
     }
 
 pub in_written : {T E T' E' : Type 0} (m m' s s' : Seen) (o o' : OverSet) (own slot at len : ℕ) (out : List ℕ) (q : Result T' E') (x : T') (r : Result T E)
-    → length out ≡ 512 * len → len ≤ 64 → (slot < own → 64 * own ≤ s.size) → (own ≤ slot → slot_from (slot - own) + 64 ≤ o.disk.size)
+    → length out ≡ 512 * len → 0 < len → len ≤ 64 → (slot < own → 64 * own ≤ s.size) → (own ≤ slot → slot_from (slot - own) + 64 ≤ o.disk.size)
     → q ≡ Ok x → Reads m at out q m' → WritesOne s o own slot 0 out r s' o' → CopiesIn m s o own slot at len r m' s' o'
-in_written {T} {E} {T'} {E'} m m' s s' o o' own slot at len out q x r long few room_s room_o is reads w =
+in_written {T} {E} {T'} {E'} m m' s s' o o' own slot at len out q x r long some few room_s room_o is reads w =
     let rd = subst (λ (p : Result T' E'). Reads m at out p m') is reads in
     let count : length out / 512 ≡ len = omega (arith, long) in
     let fits : 0 + length out / 512 ≤ 64 = omega (arith, count, few) in
@@ -207,6 +228,7 @@ in_written {T} {E} {T'} {E'} m m' s s' o o' own slot at len out q x r long few r
           ∙ done i here
           ∙ ap (λ (img : Image). block_at img i) (rd.shows told_m)
           ∙ block_at-range m.image at (length out / 512) i here) (slot_done s s' o o' own slot 0 out r w fits told_s told_o room_s room_o);
+      work = λ b. subst (λ (n : ℕ). Adds (four m s b o.disk) (slot_work own slot n) r (four m' s' b o'.disk)) count (slot_adds s s' o o' own slot 0 out r w fits (omega (arith, count, some)) m m' b (ap (λ (d : Seen). d.written) rd.rest));
     }
 
 -- ---- and out of one
@@ -220,11 +242,16 @@ out_unread {T} {E} {T'} {E'} m s s' o o' own slot at len out q x y is reads =
       over = read_over s s' o o' own slot out (Err x) rd;
       within = λ told. ChangesWithin-same at len m.image;
       copied = λ _ _ _. tt;
+      work = λ b. record {
+        done = tt;
+        most = each_disk (λ d. (four m s' b o'.disk d).written ≤ (four m s b o.disk d).written + out_work len d) (omega arith)
+            (let k = ap (λ (d : Seen). d.written) (read_shadow s s' o o' own slot out (Err x) rd) in omega (arith, k)) (omega arith) (let k = ap (λ (z : OverSet). z.disk.written) (read_over s s' o o' own slot out (Err x) rd) in omega (arith, k));
+      };
     }
 
 pub out_written : {T E T' E' : Type 0} (m m' s s' : Seen) (o o' : OverSet) (own slot at len : ℕ) (out : List ℕ) (q : Result T' E') (x : T') (r : Result T E)
-    → length out ≡ 512 * len → at + len ≤ m.size → q ≡ Ok x → ReadsOne s o own slot 0 out q s' o' → Writes m at out r m' → CopiesOut m s o own slot at len r m' s' o'
-out_written {T} {E} {T'} {E'} m m' s s' o o' own slot at len out q x r long room is reads w =
+    → length out ≡ 512 * len → 0 < len → at + len ≤ m.size → q ≡ Ok x → ReadsOne s o own slot 0 out q s' o' → Writes m at out r m' → CopiesOut m s o own slot at len r m' s' o'
+out_written {T} {E} {T'} {E'} m m' s s' o o' own slot at len out q x r long some room is reads w =
     let rd = subst (λ (p : Result T' E'). ReadsOne s o own slot 0 out p s' o') is reads in
     let count : length out / 512 ≡ len = omega (arith, long) in
     record {
@@ -238,6 +265,12 @@ out_written {T} {E} {T'} {E'} m m' s s' o o' own slot at len out q x r long room
           ∙ put_inside m.image at (blocks_of out) (at + i) (omega arith) (omega (arith, here, length-blocks_of out)) (omega (arith, told_m, room, b))
           ∙ same_place (blocks_of out) (at + i - at) i (omega arith)
           ∙ (read_shows s s' o o' own slot out (Ok x) rd told_s told_o) i here) (w.done told_m);
+      work = λ b.
+          let shadow : s'.written ≡ s.written = ap (λ (d : Seen). d.written) (read_shadow s s' o o' own slot out (Ok x) rd) in
+          let over : o'.disk.written ≡ o.disk.written = ap (λ (z : OverSet). z.disk.written) (read_over s s' o o' own slot out (Ok x) rd) in
+          adds_four m s b o.disk m' s' b o'.disk (out_work len) r
+          (now_written m m' len (length out / 512) r (omega (arith, count, some)) (sym count) w.counted) (same_written s s' 0 r shadow refl) (same_written b b 0 r refl refl) (same_written o.disk o'.disk 0 r over refl)
+          (now_most m m' len r w.uncounted) (same_most s s' 0 r shadow) (same_most b b 0 r refl) (same_most o.disk o'.disk 0 r over);
     }
 
 -- ---- a chunk, whichever way it goes
@@ -251,6 +284,7 @@ pub record Copied {T E : Type 0} (own state : ℕ) (m s d : Seen) (slot at len :
   pub others : IsTold s → IsTold d → OtherSlots own slot s.image d.image s_new.image d_new.image
   pub to_slot : IsTold m → IsTold s → IsTold d → state ≡ 0 → OnOk result ((i : ℕ) → i < len → in_slot own s_new.image d_new.image slot i ≡ block_at m.image (at + i))
   pub to_master : IsTold m → IsTold s → IsTold d → state ≡ 3 → OnOk result ((i : ℕ) → i < len → block_at m_new.image (at + i) ≡ in_slot own s.image d.image slot i)
+  pub work : (b : Seen) → Adds (four m s b d) (copy_work own state slot len) result (four m_new s_new b d_new)
 
 zero_three : (k : ℕ) → k ≡ 0 → k ≢ 3
 zero_three k a b = omega (arith, a, b)
@@ -267,6 +301,7 @@ copied_in m m' s s' o o' own slot at len r c =
       others = c.others;
       to_slot = λ a b d _. c.copied a b d;
       to_master = λ _ _ _ three. absurd (zero_three 0 refl three);
+      work = c.work;
     }
 
 same_only : (own slot : ℕ) (a b : Image) → b ≡ a → OnlySlot own slot a b
@@ -289,6 +324,8 @@ module _ {T E : Type 0} (entry : ℕ) (some : state_by entry ≢ 0) (m m' s s' :
         others = λ _ _. same_others own (slot_by entry) s.image o.disk.image s'.image o'.disk.image s_is o_is;
         to_slot = λ _ _ _ zero. absurd (some zero);
         to_master = λ a b d _. c.copied a b d;
+        work = λ b. adds_as (four m s b o.disk) (four m' s' b o'.disk) (out_work len) (copy_work own (state_by entry) (slot_by entry) len) r
+            (λ d. sym (cond_not (state_by entry) 0 (slot_work own (slot_by entry) len d) (cond (eqb (state_by entry) 3) (out_work len d) 0) some ∙ cond_is (state_by entry) 3 (out_work len d) 0 is)) (c.work b);
       }
 
   alone : (r : Result T E) → IsOk r → state_by entry ≢ 3 → Copied own (state_by entry) m s o.disk (slot_by entry) at len r m s o.disk
@@ -302,6 +339,8 @@ module _ {T E : Type 0} (entry : ℕ) (some : state_by entry ≢ 0) (m m' s s' :
     others = λ _ _. same_others own (slot_by entry) s.image o.disk.image s.image o.disk.image refl refl;
     to_slot = λ _ _ _ zero. absurd (some zero);
     to_master = λ _ _ _ three. absurd (other three);
+    work = λ b. adds_same (four m s b o.disk) (copy_work own (state_by entry) (slot_by entry) len) x
+        (λ d. cond_not (state_by entry) 0 (slot_work own (slot_by entry) len d) (cond (eqb (state_by entry) 3) (out_work len d) 0) some ∙ cond_not (state_by entry) 3 (out_work len d) 0 other);
   }
 
   pub copied_back : (r : Result T E) → CopiesBack entry m s o own at len r m' s' o' → Copied own (state_by entry) m s o.disk (slot_by entry) at len r m' s' o'.disk

@@ -95,3 +95,17 @@ count_sum p q r (suc n) each =
     let e : suc n ≡ n + 1 = omega arith in
     subst (λ (k : ℕ). length (filter r (range_with_len 0 k)) ≡ length (filter p (range_with_len 0 k)) + length (filter q (range_with_len 0 k))) (sym e)
     (omega (arith, count_more r n, count_more p n, count_more q n, each n, count_sum p q r n each))
+
+pub count_some : (p : ℕ → Bool) (n k : ℕ) → k < n → p k ≡ true → 0 < length (filter p (range_with_len 0 n))
+count_some p zero k lt is = absurd (omega (arith, lt))
+count_some p (suc n) k lt is =
+    let e : suc n ≡ n + 1 = omega arith in
+    subst (λ (j : ℕ). 0 < length (filter p (range_with_len 0 j))) (sym e)
+    (elim (cases_eq k n) [
+      | inl last ↦
+          let one : ◌≡◌ {A = ℕ} (cond (p n) 1 0) 1 = ap (λ (j : ℕ). cond (p j) 1 0) (sym last) ∙ ap (λ (b : Bool). cond b 1 0) is in
+          omega (arith, count_more p n, one)
+      | inr ne ↦
+          let rest = count_some p n k (omega (arith, lt, ne)) is in
+          omega (arith, count_more p n, rest)
+    ])

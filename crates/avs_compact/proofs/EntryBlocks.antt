@@ -5,6 +5,7 @@ use Rattle.std.proofs.lemmas.List.{get_or-set_other}
 use Rattle.avs_seg.specs.Image.{Block, Image, ChangesWithin}
 use Rattle.avs_seg.proofs.Ranges.{length-range}
 use Rattle.avs_dev.specs.Seen.{IsTold}
+use Rattle.avs_dev.specs.Memory.{counted}
 use Rattle.avs_dev.proofs.Going.{goes_ok, goes_err}
 use Rattle.avs_flip.specs.Areas.{Areas, live, live_from}
 use Rattle.avs_flip.specs.Changes.{PutsLive}
@@ -37,6 +38,9 @@ module _ (old new : Areas) (memory block start : List ℕ) (c s : ℕ) (inside :
   has : live new ≡ set (live old) (c / 128) block → HasEntries memory (live old) (live new) c s
   has done = subst (λ (l : Image). HasEntries memory (live old) l c s) (sym done) (has_entries memory (live old) block start c s (omega (arith, length-live old)) is now others)
 
+  one_block : counted old.disk.written (length block / 512) ≡ counted old.disk.written 1
+  one_block = ap (λ (n : ℕ). counted old.disk.written (n / 512)) one
+
   width : {S F : Type 0} (q : Result S F) → PutsLive old (c / 128) block q new → IsTold old.disk → ChangesWithin (live_from old + c / 128) 1 old.disk.image new.disk.image
   width q p told = subst (λ (n : ℕ). ChangesWithin (live_from old + c / 128) n old.disk.image new.disk.image) (ap (λ (n : ℕ). n / 512) one) (p.writes.within told)
 
@@ -44,7 +48,7 @@ module _ (old new : Areas) (memory block start : List ℕ) (c s : ℕ) (inside :
   by_ok y z M p sets len = record {
     place = p.place;
     len = len;
-    goes = goes_ok old.disk new.disk z y p.writes.goes;
+    writes = record { goes = goes_ok old.disk new.disk z y p.writes.goes; counted = p.writes.counted ∙ one_block; uncounted = tt };
     staged = p.kept;
     within = width (Ok z) p;
     at_exit = λ told. record { done = has ((p.sets told).done); failed = tt };
@@ -59,7 +63,7 @@ module _ (old new : Areas) (memory block start : List ℕ) (c s : ℕ) (inside :
   by_err e z p = record {
     place = p.place;
     len = refl;
-    goes = goes_err old.disk new.disk z e p.writes.goes;
+    writes = record { goes = goes_err old.disk new.disk z e p.writes.goes; counted = tt; uncounted = p.writes.uncounted };
     staged = p.kept;
     within = width (Err z) p;
     at_exit = λ told. record {

@@ -19,6 +19,7 @@ use Rattle.avs_compact.specs.Making.{Fits, Formats, Makes, Loads, HasArea, IsLab
 use Rattle.avs_compact.proofs.EntryBytes.{entry_on_blocks, entry_in-zeros}
 use Rattle.avs_compact.proofs.Counts.{cond_is, cond_not, raised-some, raised-then, raised_most}
 use Rattle.avs_dev.proofs.Going.{lasts_same, lasts_then, spared_same, spared_then, fails_then}
+use Rattle.avs_compact.proofs.OwnFirst.{first_same}
 
 -- ---- blocks that are read
 
@@ -228,9 +229,7 @@ module _ (set : ℕ) (shadow bitmap e : Seen) (blocks : ℕ) (memory next : List
   Makes-made x f = record {
     is = refl;
     fits = room;
-    lasts = f.goes.lasts;
-    spared = f.goes.done;
-    counted = f.counted;
+    written = record { lasts = f.goes.lasts; spared = f.goes.done; counted = f.counted };
     on_disk = λ told. (made_label (f.done told) told, f.done told);
     entries = memory_entry;
     step = λ told. record { each = λ c lt. memory_entry c ∙ sym (made_entry (f.done told) told c lt) };
@@ -259,4 +258,5 @@ Loads-found set own X bitmap e blocks live_b memory next new own_is room same la
       label = λ told. record { label = label told };
       entries = subst (λ (n : ℕ). AreEntries (entry_in memory) n (seg_count blocks)) own_is entries;
       step = λ told. record { each = (area told).each };
+      own_first = λ told first. first_same (λ c. entry_on (live (areas_on bitmap blocks live_b)) c) (entry_in memory) (own_of X) (seg_count blocks) 0 (area told).each first;
     })

@@ -1,4 +1,5 @@
 pub mod Counts
+pub mod Work
 pub mod EntryBytes
 pub mod Marking
 pub mod Kept
@@ -8,6 +9,8 @@ pub mod Readings
 pub mod EntryBlocks
 pub mod Copied
 pub mod Placed
+pub mod OwnFirst
+pub mod Tallied
 pub mod Settled
 pub mod SettlingNew
 pub mod Settles
@@ -20,4 +23,9 @@ pub mod Chained
 pub mod Staged
 pub mod Turned
 pub mod Ahead
+pub mod AheadThen
 pub mod Updated
+pub mod SplitCounts
+pub mod PartsTurned
+pub mod PartsSeen
+pub mod StageWork

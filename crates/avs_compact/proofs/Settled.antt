@@ -5,9 +5,10 @@ use Rattle.std.proofs.lemmas.Result.{on_ok_weaker, on_err_weaker}
 use Rattle.avs_seg.specs.Image.{Image, Block, block_at, ChangesWithin}
 use Rattle.avs_seg.specs.Segment.{seg_len}
 use Rattle.avs_seg.proofs.Blocks.{same_place}
-use Rattle.avs_seg.proofs.Exits.{either}
+use Rattle.avs_seg.proofs.Exits.{either, err_exit}
 use Rattle.avs_dev.specs.Seen.{Seen, IsTold}
 use Rattle.avs_dev.specs.Devices.{AllGoOn}
+use Rattle.avs_dev.specs.Memory.{counted as counted_by}
 use Rattle.avs_dev.proofs.Going.{all_then, all_err}
 use Rattle.avs_flip.specs.Areas.{Areas, live, live_from}
 use Rattle.avs_over.specs.Slots.{owner_at}
@@ -15,15 +16,18 @@ use Rattle.avs_over.specs.Over.{OverSet, slots}
 use Rattle.avs_compact.specs.Entries.{IsEntry, state_by, slot_by, entry_in, entry_on}
 use Rattle.avs_compact.specs.CompactSet.{CompactSet, disk_of, entry_of, disk_entry, chunks_of, in_slot}
 use Rattle.avs_compact.specs.Slots.{IsClean}
-use Rattle.avs_compact.specs.Disks.{Shadow, Over, four, disk_at}
+use Rattle.avs_compact.specs.Disks.{CompactDisk, Shadow, Over, four, disk_at, Adds}
+use Rattle.avs_compact.specs.Work.{AddsUpTo, copy_work, settle_work, settle_most, settled_work, settled_most}
 use Rattle.avs_compact.specs.Calls.{IsKnown}
 use Rattle.avs_compact.specs.Places.{ArePlaced, OnlyTakes, KeepsOver, SetsEntry, AreSame}
 use Rattle.avs_compact.specs.Steps.{WritesEntry, HasEntries, PutsEntry}
-use Rattle.avs_compact.specs.Keeping.{IsPlaced, UsesOwnFirst, IsAlike, shadow_block, master_block, IsCleanOnDisk, KeepsBitmap, KeepsBlocks, KeepsSlots, KeepsSet, CountsSlots, Settles}
+use Rattle.avs_compact.specs.Keeping.{IsPlaced, OwnFirst, UsesOwnFirst, IsAlike, shadow_block, master_block, IsCleanOnDisk, KeepsBitmap, KeepsBlocks, KeepsSlots, KeepsSet, CountsSlots, Settles}
 use Rattle.avs_compact.proofs.Counts.{cond_is, cond_not}
 use Rattle.avs_compact.proofs.Going.{bitmap_goes}
+use Rattle.avs_compact.proofs.Work.{settle_less, copy_settle, settled_adds, up_to_as}
 use Rattle.avs_compact.proofs.Copied.{Copied}
 use Rattle.avs_compact.proofs.Placed.{SetsOne, IsApart, placed_same, placed_one}
+use Rattle.avs_compact.proofs.OwnFirst.{first_same}
 
 -- ---- small facts
 
@@ -324,17 +328,30 @@ module _ (s : CompactSet) (X : Option Seen) (still : is_some X ≡ is_some s.sha
         ne (ap (λ (j : ℕ). owner_at o'.owners j) (sym here) ∙ mine placed past));
   }
 
+  -- the blocks that were written of the chunk
+  abbrev len : ℕ
+  len = seg_len chunk s.blocks
+
+  abbrev state : ℕ
+  state = state_by (entry_of s chunk)
+
+  stopped_work : {e : E} → r ≡ Err e → (d : CompactDisk) → (disk_at (record s { shadow = X }) o' m' d).written ≤ (disk_at s o m d).written + settle_most state len d
+  stopped_work {e} is d =
+      let most = (subst (λ (q : Result T E). Adds (four m (disk_of s.shadow) s.areas.disk o.disk) (copy_work s.own state slot len) q (four m' (disk_of X) s.areas.disk o'.disk)) is (cp.work s.areas.disk)).most in
+      omega (arith, most d, copy_settle s.own state slot len d, settle_less s.own state slot len d)
+
   pub fails_copy : {U G : Type 0} (e : E) (e' : G) → r ≡ Err e → Settles {T = U} s o m chunk target (Err e') (record s { shadow = X }) o' m'
   fails_copy {U} {G} e e' is =
       let go = subst (λ (q : Result T E). AllGoOn (four m (disk_of s.shadow) s.areas.disk o.disk) q (four m' (disk_of X) s.areas.disk o'.disk)) is (cp.goes s.areas.disk) in
       record {
         keeps = record {
-          shape = record { set = refl; own = refl; blocks = refl; there = still; first = refl; len = refl; live_b = refl; next = refl };
+          shape = record { set = refl; own = refl; blocks = refl; there = still; areas = (refl, refl); live_b = refl; next = refl; ahead = refl };
           goes = all_err (disk_at s o m) (disk_at (record s { shadow = X }) o' m') e e' go;
           bitmap = λ told. record { label = refl; staged = refl; clean = λ zeros. record { each = zeros.each } };
           slots = same_slots s.areas s.memory s.low refl;
           over = keeps_over;
           blocks = λ kn placed td. same_entries s X s.areas s.memory s.next s.low s.ahead o o' m m' chunk target slot may kn.step.each (free placed) r cp td kn.shadow kn.over takes placed (mine placed) (record { each = λ c _. refl });
+          own_first = λ kn first. first_same (entry_of s) (disk_entry s) s.own (chunks_of s) s.ahead (λ c lt. sym (kn.step.each c lt)) first;
         };
         done = λ kn. tt;
         stopped = λ kn. inl (record { each = λ c _. refl });
@@ -342,18 +359,20 @@ module _ (s : CompactSet) (X : Option Seen) (still : is_some X ≡ is_some s.sha
         memory = tt;
         unset = refl;
         counts = tt;
+        work = record { done = tt; stopped = stopped_work is };
       }
 
   module _ (is_new : IsNewEntry entry target slot) (clean : IsClean s.memory (chunks_of s)) (first : s.areas.first ≡ 1) (room : s.own ≤ slot → slot - s.own < slots o')
       (a' : Areas) (M' : List ℕ) (L : ℕ) (x : T) (copied : r ≡ Ok x) {V H : Type 0} (q : Result V H) (p : WritesEntry s.areas s.memory chunk entry q a' M')
       (counted : SetsOne (entry_of s) (λ c. entry_in M' c) (chunks_of s) chunk slot
-      → CountsSlots s o (cond (eqb (entry_of s chunk) 0) 1 0) (record s { shadow = X; areas = a'; memory = M'; low = L }) o' × (UsesOwnFirst s → UsesOwnFirst (record s { shadow = X; areas = a'; memory = M'; low = L }))) where
+      → CountsSlots s o (cond (eqb (entry_of s chunk) 0) 1 0) (record s { shadow = X; areas = a'; memory = M'; low = L }) o')
+      (first_by : (F : ℕ → ℕ) → SetsOne (entry_of s) F (chunks_of s) chunk slot → UsesOwnFirst s → OwnFirst F s.own (chunks_of s) s.ahead) where
     abbrev pub settled : CompactSet
     settled = record s { shadow = X; areas = a'; memory = M'; low = L }
 
     goes : AllGoOn (disk_at s o m) q (disk_at settled o' m')
     goes = all_then (disk_at s o m) (four m' (disk_of X) s.areas.disk o'.disk) (disk_at settled o' m') x q
-        (subst (λ (z : Result T E). AllGoOn (disk_at s o m) z (four m' (disk_of X) s.areas.disk o'.disk)) copied (cp.goes s.areas.disk)) (bitmap_goes m' (disk_of X) s.areas.disk a'.disk o'.disk q p.goes)
+        (subst (λ (z : Result T E). AllGoOn (disk_at s o m) z (four m' (disk_of X) s.areas.disk o'.disk)) copied (cp.goes s.areas.disk)) (bitmap_goes m' (disk_of X) s.areas.disk a'.disk o'.disk q p.writes.goes)
 
     -- the entries in memory
     memory_one : PutsEntry s.memory M' chunk entry → SetsOne (entry_of s) (λ c. entry_in M' c) (chunks_of s) chunk slot
@@ -380,7 +399,7 @@ module _ (s : CompactSet) (X : Option Seen) (still : is_some X ≡ is_some s.sha
         ];
       };
       placed = λ placed. placed_one (entry_of s) (λ c. entry_in M' c) s.own (chunks_of s) s.set chunk slot o.owners o'.owners (memory_one set) takes placed (free placed) (mine placed);
-      own_first = (counted (memory_one set)).1;
+      own_first = first_by (λ c. entry_in M' c) (memory_one set);
       owners = takes;
     }
 
@@ -395,9 +414,14 @@ module _ (s : CompactSet) (X : Option Seen) (still : is_some X ≡ is_some s.sha
       others = one.others;
     }
 
+    -- the entries on the disk, beside those in memory before
+    on_disk : IsKnown s o → HasEntries s.memory (live s.areas) (live a') chunk entry → SetsOne (entry_of s) (λ c. entry_on (live a') c) (chunks_of s) chunk slot
+    on_disk kn has = let one = disk_one s a' chunk target slot entry is_new may.there clean first kn.step.each has in
+        record { there = one.there; some = one.some; form = one.form; slot_is = one.slot_is; others = λ c lt ne. one.others c lt ne ∙ sym (kn.step.each c lt) }
+
     keeps : KeepsSet s o m q settled o' m'
     keeps = record {
-      shape = record { set = refl; own = refl; blocks = refl; there = still; first = ap (λ (a : Areas). a.first) p.place; len = ap (λ (a : Areas). a.len) p.place; live_b = ap (λ (a : Areas). a.live_b) p.place; next = refl };
+      shape = record { set = refl; own = refl; blocks = refl; there = still; areas = (ap (λ (a : Areas). a.first) p.place, ap (λ (a : Areas). a.len) p.place); live_b = ap (λ (a : Areas). a.live_b) p.place; next = refl; ahead = refl };
       goes = goes;
       bitmap = λ told. let kept = keeps_bitmap s a' chunk target slot entry is_new may.there clean first X M' q p told in record { label = kept.label; staged = kept.staged; clean = λ zeros. record { each = (kept.clean zeros).each } };
       slots = slots_now q p.set p.unset;
@@ -407,6 +431,10 @@ module _ (s : CompactSet) (X : Option Seen) (still : is_some X ≡ is_some s.sha
         | inr has ↦ one_entry s X a' M' s.next L s.ahead o o' m m' chunk target slot may kn.step.each (free placed) r cp td kn.shadow kn.over takes placed (mine placed)
             (disk_one s a' chunk target slot entry is_new may.there clean first kn.step.each has) (ap state_by has.now ∙ is_new.state) x copied
       ];
+      own_first = λ kn before. elim (either q (p.at_exit kn.bitmap).done (p.at_exit kn.bitmap).failed) [
+        | inl same ↦ first_same (entry_of s) (λ c. entry_on (live a') c) s.own (chunks_of s) s.ahead (λ c lt. ap (λ (img : Image). entry_on img c) same ∙ sym (kn.step.each c lt)) before
+        | inr has ↦ first_by (λ c. entry_on (live a') c) (on_disk kn has) before
+      ];
     }
 
     step : IsKnown s o → HasEntries s.memory (live s.areas) (live a') chunk entry → PutsEntry s.memory M' chunk entry → (c : ℕ) → c < chunks_of s → entry_in M' c ≡ entry_on (live a') c
@@ -414,6 +442,15 @@ module _ (s : CompactSet) (X : Option Seen) (still : is_some X ≡ is_some s.sha
       | inl is ↦ ap (λ (k : ℕ). entry_in M' k) is ∙ set.now ∙ sym has.now ∙ ap (λ (k : ℕ). entry_on (live a') k) (sym is)
       | inr ne ↦ set.others c ne ∙ kn.step.each c lt ∙ sym ((sets_disk kn has).others c lt ne)
     ]
+
+    work_now : (z : Result V H) → OnOk z (PutsEntry s.memory M' chunk entry) → OnOk z (a'.disk.written ≡ counted_by s.areas.disk.written 1) → OnErr z (a'.disk.written ≡ s.areas.disk.written)
+        → AddsUpTo (disk_at s o m) (settled_work s settled chunk) (settled_most s chunk) z (disk_at settled o' m')
+    work_now z set one none =
+        let done = (subst (λ (k : Result T E). Adds (four m (disk_of s.shadow) s.areas.disk o.disk) (copy_work s.own state slot len) k (four m' (disk_of X) s.areas.disk o'.disk)) copied (cp.work s.areas.disk)).done in
+        up_to_as (disk_at s o m) (disk_at settled o' m') (settle_work s.own state slot len) (settled_work s settled chunk) (settle_most state len) (settled_most s chunk) z
+        (on_ok_weaker z (λ set d. ap (λ (k : ℕ). settle_work s.own state k len d) (sym (memory_one set).slot_is)) set)
+        (err_exit z (λ d. omega arith))
+        (settled_adds s.own state slot len m m' (disk_of s.shadow) (disk_of X) s.areas.disk a'.disk o.disk o'.disk z done one none)
 
     pub settles : Settles s o m chunk target q settled o' m'
     settles = record {
@@ -423,13 +460,14 @@ module _ (s : CompactSet) (X : Option Seen) (still : is_some X ≡ is_some s.sha
       known = λ kn. known q (p.at_exit kn.bitmap).done p.set kn;
       memory = on_ok_weaker q (λ set. record { now = ap state_by set.now ∙ is_new.state; slot = λ some. (memory_one set).slot_is ∙ may.had some; others = λ c lt ne. set.others c ne }) p.set;
       unset = p.unset;
-      counts = on_ok_weaker q (λ set. (counted (memory_one set)).0) p.set;
+      counts = on_ok_weaker q (λ set. counted (memory_one set)) p.set;
+      work = work_now q p.set p.writes.counted p.writes.uncounted;
     }
       where
         known : (z : Result V H) → OnOk z (HasEntries s.memory (live s.areas) (live a') chunk entry) → OnOk z (PutsEntry s.memory M' chunk entry) → IsKnown s o → OnOk z (IsKnown settled o')
         known (Ok y) has set kn = record {
           shadow = ((cp.goes s.areas.disk).lasts Shadow).told kn.shadow;
-          bitmap = p.goes.lasts.told kn.bitmap;
+          bitmap = p.writes.goes.lasts.told kn.bitmap;
           over = ((cp.goes s.areas.disk).lasts Over).told kn.over;
           step = record { each = step kn has set };
         }

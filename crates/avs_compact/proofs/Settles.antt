@@ -18,7 +18,7 @@ use Rattle.avs_compact.specs.declared.marks.Counts.{Counts}
 use Rattle.avs_compact.proofs.Copied.{Copied, copied_in, copied_back, back_owners}
 use Rattle.avs_compact.proofs.Placed.{only_takes_none}
 use Rattle.avs_compact.proofs.Settled.{IsNewEntry, zero_state, some_state, fails_copy, settles}
-use Rattle.avs_compact.proofs.SettlingNew.{new_entry, settling_new, free_slot, takes_slot, mine_slot, room_slot, disk_slot, counts_new, settling_old, apart_old, counts_old}
+use Rattle.avs_compact.proofs.SettlingNew.{new_entry, settling_new, free_slot, takes_slot, mine_slot, room_slot, disk_slot, first_new, counts_new, settling_old, apart_old, counts_old, first_old}
 
 -- ---- in a slot that it takes
 
@@ -58,6 +58,7 @@ module _ (s : CompactSet) (chunk slot : ℕ) (o o1 o' : OverSet) (table : Owners
       settles s X still o o' m m' chunk 2 slot (entry_for 2 slot) (settling_new s chunk slot there none marks.form) (free_slot s chunk slot o o1 table counts marks inside kept t there none) takes (λ _. mine) r cp
       (new_entry 2 slot (inl refl) small) clean first room a' M' L x is q p
       (λ one. counts_new s chunk slot o o1 table counts marks inside kept t there none (record s { shadow = X; areas = a'; memory = M'; low = L }) o' refl refl refl refl owners_is one)
+      (λ F one. first_new s chunk slot o o1 table counts marks inside kept t there none F one)
 
 -- the same where the error is told by another word
 pub settles_err : {T E T' E' : Type 0} (s s' : CompactSet) (o o' : OverSet) (m m' : Seen) (chunk target : ℕ) (q : Result T E) (e : E) (e' : E') → q ≡ Err e → Settles s o m chunk target q s' o' m' → Settles {T = T'} s o m chunk target (Err e') s' o' m'
@@ -65,13 +66,14 @@ settles_err {T} {E} {T'} {E'} s s' o o' m m' chunk target q e e' is st = by_err 
   where
     by_err : Settles {T = T} s o m chunk target (Err e) s' o' m' → Settles {T = T'} s o m chunk target (Err e') s' o' m'
     by_err p = record {
-      keeps = record { shape = p.keeps.shape; goes = all_err (disk_at s o m) (disk_at s' o' m') e e' p.keeps.goes; bitmap = p.keeps.bitmap; slots = p.keeps.slots; over = p.keeps.over; blocks = p.keeps.blocks };
+      keeps = record { shape = p.keeps.shape; goes = all_err (disk_at s o m) (disk_at s' o' m') e e' p.keeps.goes; bitmap = p.keeps.bitmap; slots = p.keeps.slots; over = p.keeps.over; blocks = p.keeps.blocks; own_first = p.keeps.own_first };
       done = λ kn. tt;
       stopped = p.stopped;
       known = λ kn. tt;
       memory = tt;
       unset = p.unset;
       counts = tt;
+      work = record { done = tt; stopped = p.work.stopped };
     }
 
 pub settles_ok : {T E T' E' : Type 0} (s s' : CompactSet) (o o' : OverSet) (m m' : Seen) (chunk target : ℕ) (q : Result T E) (x : T) (x' : T') → q ≡ Ok x → Settles s o m chunk target q s' o' m' → Settles {E = E'} s o m chunk target (Ok x') s' o' m'
@@ -79,13 +81,14 @@ settles_ok {T} {E} {T'} {E'} s s' o o' m m' chunk target q x x' is st = by_ok (s
   where
     by_ok : Settles {E = E} s o m chunk target (Ok x) s' o' m' → Settles {E = E'} s o m chunk target (Ok x') s' o' m'
     by_ok p = record {
-      keeps = record { shape = p.keeps.shape; goes = record { lasts = p.keeps.goes.lasts; done = p.keeps.goes.done; failed = tt }; bitmap = p.keeps.bitmap; slots = p.keeps.slots; over = p.keeps.over; blocks = p.keeps.blocks };
+      keeps = record { shape = p.keeps.shape; goes = record { lasts = p.keeps.goes.lasts; done = p.keeps.goes.done; failed = tt }; bitmap = p.keeps.bitmap; slots = p.keeps.slots; over = p.keeps.over; blocks = p.keeps.blocks; own_first = p.keeps.own_first };
       done = p.done;
       stopped = λ kn. tt;
       known = p.known;
       memory = p.memory;
       unset = tt;
       counts = p.counts;
+      work = record { done = p.work.done; stopped = tt };
     }
 
 -- ---- in the slot that it has
@@ -123,3 +126,4 @@ module _ (s : CompactSet) (chunk target e : ℕ) (o o' : OverSet) (is : e ≡ en
       settles s X still o o' m m' chunk target (slot_by (entry_of s chunk)) (entry_for target slot) (settling_old s chunk target may form) (apart_old s o chunk may.there may.slot) old_takes old_mine r old_cp
       (subst (λ (k : ℕ). IsNewEntry (entry_for target slot) target k) slot_is (new_entry target slot may.targets small)) clean first old_room a' M' s.low x ok q p
       (λ one. counts_old s (record s { shadow = X; areas = a'; memory = M' }) o o' chunk (slot_by (entry_of s chunk)) refl refl refl refl old_owners may.slot refl one)
+      (λ F one. first_old (entry_of s) F s.own (chunks_of s) s.ahead chunk (slot_by (entry_of s chunk)) may.slot refl one)

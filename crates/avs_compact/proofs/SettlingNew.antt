@@ -8,7 +8,7 @@ use Rattle.avs_compact.specs.CompactSet.{CompactSet, entry_of, chunks_of, need_o
 use Rattle.avs_compact.specs.Slots.{Marks}
 use Rattle.avs_compact.specs.Places.{OnlyTakes}
 use Rattle.avs_compact.specs.Steps.{TakesSlot}
-use Rattle.avs_compact.specs.Keeping.{IsPlaced, UsesOwnFirst, MaySettle, CountsSlots}
+use Rattle.avs_compact.specs.Keeping.{IsPlaced, OwnFirst, UsesOwnFirst, MaySettle, CountsSlots}
 use Rattle.avs_compact.specs.declared.marks.Counts.{Counts}
 use Rattle.avs_compact.proofs.Counts.{cond_is, cond_not}
 use Rattle.avs_compact.proofs.Kept.{used_or_kept, free_behind}
@@ -73,12 +73,23 @@ module _ (s : CompactSet) (chunk slot : ℕ) (o o1 : OverSet) (table : Owners) (
     | inr past ↦ (let e = (t.over (past_own past)).given in e ∙ ap (λ (l : Owners). record o { owners = l }) (sym (ap (λ (z : OverSet). z.owners) e)))
   ]
 
+  some_free : slot < s.own → used_in table + s.ahead < length table
+  some_free low = free_behind table s.low s.ahead inside kept slot (t.least (in_own low)).0 (in_own low) (t.own (in_own low)).0
+
+  -- entries with the slot use own ones first
+  pub first_new : (F : ℕ → ℕ) → SetsOne (entry_of s) F (chunks_of s) chunk slot → UsesOwnFirst s → OwnFirst F s.own (chunks_of s) s.ahead
+  first_new F one first more = elim (cases_lt slot s.own) [
+    | inl low ↦ absurd (let c = own_slot (entry_of s) F s.own (chunks_of s) chunk slot one none low in
+        let full = first (omega (arith, more, c.1)) in
+        omega (arith, full, some_free low, marks.in_table, marks.own_count, marks.long))
+    | inr past ↦ (let c = over_slot (entry_of s) F s.own (chunks_of s) chunk slot one none past in
+        let full = used_or_kept table s.low s.ahead inside kept (t.full (past_own past)) in
+        omega (arith, c.0, full, marks.in_table, marks.own_count, marks.long))
+  ]
+
   module _ (s' : CompactSet) (o' : OverSet) (own : s'.own ≡ s.own) (n : chunks_of s' ≡ chunks_of s) (by : s'.set ≡ s.set) (ahead : s'.ahead ≡ s.ahead) (owners : o'.owners ≡ o1.owners) (one : SetsOne (entry_of s) (entry_of s') (chunks_of s) chunk slot) where
     need_now : need_of s' ≡ need_of s + 1
     need_now = ap (λ (k : ℕ). count_of is_touched (entry_of s') k) n ∙ need_more (entry_of s) (entry_of s') s.own (chunks_of s) chunk slot one none
-
-    own_now : own_used s' ≡ count_of (is_own s.own) (entry_of s') (chunks_of s)
-    own_now = ap (λ (k : ℕ). count_of (is_own k) (entry_of s') (chunks_of s')) own ∙ ap (λ (k : ℕ). count_of (is_own s.own) (entry_of s') k) n
 
     over_now : over_used s' ≡ count_of (is_over s.own) (entry_of s') (chunks_of s)
     over_now = ap (λ (k : ℕ). count_of (is_over k) (entry_of s') (chunks_of s')) own ∙ ap (λ (k : ℕ). count_of (is_over s.own) (entry_of s') k) n
@@ -86,41 +97,32 @@ module _ (s : CompactSet) (chunk slot : ℕ) (o o1 : OverSet) (table : Owners) (
     one_slot : ◌≡◌ {A = ℕ} (cond (eqb (entry_of s chunk) 0) 1 0) 1
     one_slot = cond_is {A = ℕ} (entry_of s chunk) 0 1 0 none
 
-    pub counts_new : CountsSlots s o (cond (eqb (entry_of s chunk) 0) 1 0) s' o' × (UsesOwnFirst s → UsesOwnFirst s')
+    pub counts_new : CountsSlots s o (cond (eqb (entry_of s chunk) 0) 1 0) s' o'
     counts_new = elim (cases_lt slot s.own) [
       | inl low ↦
           let e : o'.owners ≡ o.owners = owners ∙ ap (λ (z : OverSet). z.owners) (t.own (in_own low)).1 in
           let u : used o' ≡ used o = ap (λ (l : Owners). used_in l) e in
           let k : slots o' ≡ slots o = ap length e in
           let c = own_slot (entry_of s) (entry_of s') s.own (chunks_of s) chunk slot one none low in
-          let over_same : over_used s' ≡ over_used s = over_now ∙ c.1 in (
-            record {
-              need = omega (arith, need_now, one_slot);
-              room = omega (arith, over_same, u, k, own, ahead);
-              taken = λ taken. (ap (λ (b : ℕ). given_to b o'.owners) by ∙ ap (λ (l : Owners). given_to s.set l) e ∙ taken.0 ∙ sym over_same, ahead ∙ taken.1);
-            },
-            λ first more. absurd (let full = first (omega (arith, more, over_same)) in
-                let some_free = used_below_table low in
-                omega (arith, full, some_free, marks.in_table, marks.own_count, marks.long)),
-          )
+          let over_same : over_used s' ≡ over_used s = over_now ∙ c.1 in
+          record {
+            need = omega (arith, need_now, one_slot);
+            room = omega (arith, over_same, u, k, own, ahead);
+            taken = λ taken. (ap (λ (b : ℕ). given_to b o'.owners) by ∙ ap (λ (l : Owners). given_to s.set l) e ∙ taken.0 ∙ sym over_same, ahead ∙ taken.1);
+          }
       | inr past ↦
           let tk = t.over (past_own past) in
           let u : used o' ≡ used o + 1 = ap (λ (l : Owners). used_in l) owners ∙ tk.more in
           let k : slots o' ≡ slots o = ap length owners ∙ takes_slot.long in
           let c = over_slot (entry_of s) (entry_of s') s.own (chunks_of s) chunk slot one none past in
           let over_more : over_used s' ≡ over_used s + 1 = over_now ∙ c.1 in
-          let below = used_below o o1 s.set (slot - length table) tk in (
-            record {
-              need = omega (arith, need_now, one_slot);
-              room = omega (arith, over_more, u, k, own, below, ahead);
-              taken = λ taken. (ap (λ (b : ℕ). given_to b o'.owners) by ∙ ap (λ (l : Owners). given_to s.set l) owners ∙ given_more o o1 s.set (slot - length table) tk ∙ ap (λ (j : ℕ). j + 1) taken.0 ∙ sym over_more, ahead ∙ taken.1);
-            },
-            λ first more. (let full = used_or_kept table s.low s.ahead inside kept (t.full (past_own past)) in omega (arith, own_now, c.0, full, marks.in_table, marks.own_count, marks.long, own, ahead)),
-          )
+          let below = used_below o o1 s.set (slot - length table) tk in
+          record {
+            need = omega (arith, need_now, one_slot);
+            room = omega (arith, over_more, u, k, own, below, ahead);
+            taken = λ taken. (ap (λ (b : ℕ). given_to b o'.owners) by ∙ ap (λ (l : Owners). given_to s.set l) owners ∙ given_more o o1 s.set (slot - length table) tk ∙ ap (λ (j : ℕ). j + 1) taken.0 ∙ sym over_more, ahead ∙ taken.1);
+          }
     ]
-      where
-        used_below_table : slot < s.own → used_in table + s.ahead < length table
-        used_below_table low = free_behind table s.low s.ahead inside kept slot (t.least (in_own low)).0 (in_own low) (t.own (in_own low)).0
 
 -- a slot is free where the set needs fewer than it has room for
 pub slot_free : (s : CompactSet) (o o1 : OverSet) (table : Owners) (counts : Counts) → Marks (entry_of s) s.own (chunks_of s) table counts → s.low ≤ length table → used_in (take s.low table) + s.ahead ≡ s.low
@@ -139,7 +141,7 @@ pub apart_old : (s : CompactSet) (o : OverSet) (chunk : ℕ) → chunk < chunks_
 apart_old s o chunk there has placed = record { each = λ c lt ne some. placed.apart chunk c there lt (λ z. ne (sym z)) has some }
 
 pub counts_old : (s s' : CompactSet) (o o' : OverSet) (chunk slot : ℕ) → s'.own ≡ s.own → chunks_of s' ≡ chunks_of s → s'.set ≡ s.set → s'.ahead ≡ s.ahead → o'.owners ≡ o.owners → entry_of s chunk ≢ 0 → slot_by (entry_of s chunk) ≡ slot
-    → SetsOne (entry_of s) (entry_of s') (chunks_of s) chunk slot → CountsSlots s o (cond (eqb (entry_of s chunk) 0) 1 0) s' o' × (UsesOwnFirst s → UsesOwnFirst s')
+    → SetsOne (entry_of s) (entry_of s') (chunks_of s) chunk slot → CountsSlots s o (cond (eqb (entry_of s chunk) 0) 1 0) s' o'
 counts_old s s' o o' chunk slot own n by ahead owners some is one =
     let own_same : own_used s' ≡ own_used s = ap (λ (k : ℕ). count_of (is_own k) (entry_of s') (chunks_of s')) own ∙ ap (λ (k : ℕ). count_of (is_own s.own) (entry_of s') k) n ∙ own_stays (entry_of s) (entry_of s') s.own (chunks_of s) chunk slot one some is in
     let over_same : over_used s' ≡ over_used s = ap (λ (k : ℕ). count_of (is_over k) (entry_of s') (chunks_of s')) own ∙ ap (λ (k : ℕ). count_of (is_over s.own) (entry_of s') k) n ∙ over_stays (entry_of s) (entry_of s') s.own (chunks_of s) chunk slot one some is in
@@ -147,11 +149,14 @@ counts_old s s' o o' chunk slot own n by ahead owners some is one =
     let need = need_is s.own (entry_of s) (chunks_of s) in
     let need' = need_is s'.own (entry_of s') (chunks_of s') in
     let u : used o' ≡ used o = ap (λ (l : Owners). used_in l) owners in
-    let k : slots o' ≡ slots o = ap length owners in (
-      record {
-        need = omega (arith, need, need', own_same, over_same, none);
-        room = omega (arith, over_same, u, k, own, ahead);
-        taken = λ taken. (ap (λ (b : ℕ). given_to b o'.owners) by ∙ ap (λ (l : Owners). given_to s.set l) owners ∙ taken.0 ∙ sym over_same, ahead ∙ taken.1);
-      },
-      λ first more. (let f = first (omega (arith, more, over_same)) in omega (arith, f, own_same, own, ahead)),
-    )
+    let k : slots o' ≡ slots o = ap length owners in
+    record {
+      need = omega (arith, need, need', own_same, over_same, none);
+      room = omega (arith, over_same, u, k, own, ahead);
+      taken = λ taken. (ap (λ (b : ℕ). given_to b o'.owners) by ∙ ap (λ (l : Owners). given_to s.set l) owners ∙ taken.0 ∙ sym over_same, ahead ∙ taken.1);
+    }
+
+pub first_old : (f g : ℕ → ℕ) (own n kept chunk slot : ℕ) → f chunk ≢ 0 → slot_by (f chunk) ≡ slot → SetsOne f g n chunk slot → OwnFirst f own n kept → OwnFirst g own n kept
+first_old f g own n kept chunk slot some is one first more =
+    let full = first (omega (arith, more, over_stays f g own n chunk slot one some is)) in
+    omega (arith, full, own_stays f g own n chunk slot one some is)

@@ -82,9 +82,9 @@ blocks_none s to first = record {
   most = tt;
 }
 
-set_more : (a b d to to' : ℕ → ℕ) (first n : ℕ) → ((c : ℕ) → 128 * (first + n) ≤ c → c < 128 * (first + n + 1) → to' c ≡ to c) → AreSetTo a b to (128 * first) (128 * (first + n)) → AreSetTo b d to' (128 * (first + n)) (128 * (first + n + 1))
-    → AreSetTo a d to (128 * first) (128 * (first + (n + 1)))
-set_more a b d to to' first n same p q = record {
+set_more : (a b d to to' : ℕ → ℕ) (first n k : ℕ) → ((c : ℕ) → 128 * (first + n) ≤ c → c < 128 * (first + n + k) → to' c ≡ to c) → AreSetTo a b to (128 * first) (128 * (first + n)) → AreSetTo b d to' (128 * (first + n)) (128 * (first + n + k))
+    → AreSetTo a d to (128 * first) (128 * (first + (n + k)))
+set_more a b d to to' first n k same p q = record {
   inside = λ c low high. elim (cases_lt c (128 * (first + n))) [
     | inl below ↦ q.outside c (inl below) ∙ p.inside c low below
     | inr from ↦ q.inside c from (omega (arith, high)) ∙ same c from (omega (arith, high))
@@ -92,40 +92,40 @@ set_more a b d to to' first n same p q = record {
   outside = λ c out. q.outside c (past c out) ∙ p.outside c (before c out);
 }
   where
-    past : (c : ℕ) → (c < 128 * first) ⊎ (128 * (first + (n + 1)) ≤ c) → (c < 128 * (first + n)) ⊎ (128 * (first + n + 1) ≤ c)
+    past : (c : ℕ) → (c < 128 * first) ⊎ (128 * (first + (n + k)) ≤ c) → (c < 128 * (first + n)) ⊎ (128 * (first + n + k) ≤ c)
     past c (inl low) = inl (omega (arith, low))
     past c (inr high) = inr (omega (arith, high))
 
-    before : (c : ℕ) → (c < 128 * first) ⊎ (128 * (first + (n + 1)) ≤ c) → (c < 128 * first) ⊎ (128 * (first + n) ≤ c)
+    before : (c : ℕ) → (c < 128 * first) ⊎ (128 * (first + (n + k)) ≤ c) → (c < 128 * first) ⊎ (128 * (first + n) ≤ c)
     before c (inl low) = inl low
     before c (inr high) = inr (omega (arith, high))
 
-module _ (s now new : CompactSet) (to to' : ℕ → ℕ) (first n : ℕ) (same : (c : ℕ) → 128 * (first + n) ≤ c → c < 128 * (first + n + 1) → to' c ≡ to c) (so : StagesBlocks {T = Unit {0}} {E = Failed} s to first n (Ok tt) now) where
-  is_then : {T E : Type 0} (r : Result T E) → StagesBlocks now to' (first + n) 1 r new → new ≡ record s { areas = record s.areas { disk = new.areas.disk }; next = new.next }
+module _ (s now new : CompactSet) (to to' : ℕ → ℕ) (first n k : ℕ) (same : (c : ℕ) → 128 * (first + n) ≤ c → c < 128 * (first + n + k) → to' c ≡ to c) (so : StagesBlocks {T = Unit {0}} {E = Failed} s to first n (Ok tt) now) where
+  is_then : {T E : Type 0} (r : Result T E) → StagesBlocks now to' (first + n) k r new → new ≡ record s { areas = record s.areas { disk = new.areas.disk }; next = new.next }
   is_then r p = p.is ∙ ap (λ (x : CompactSet). record x { areas = record x.areas { disk = new.areas.disk }; next = new.next }) so.is
 
-  kept_then : {T E : Type 0} (r : Result T E) → StagesBlocks now to' (first + n) 1 r new → IsTold s.areas.disk → KeepsLive s.areas new.areas
+  kept_then : {T E : Type 0} (r : Result T E) → StagesBlocks now to' (first + n) k r new → IsTold s.areas.disk → KeepsLive s.areas new.areas
   kept_then r p told =
       let a = so.kept told in
       let b = p.kept (so.goes.lasts.told told) in
       record { label = b.label ∙ a.label; live = b.live ∙ a.live }
 
-  pub blocks_more : (q : Result (Unit {0}) Failed) → q ≡ Ok tt → StagesBlocks now to' (first + n) 1 q new → StagesBlocks {T = Unit {0}} {E = Failed} s to first (n + 1) (Ok tt) new
+  pub blocks_more : (q : Result (Unit {0}) Failed) → q ≡ Ok tt → StagesBlocks now to' (first + n) k q new → StagesBlocks {T = Unit {0}} {E = Failed} s to first (n + k) (Ok tt) new
   blocks_more q is one =
-      let p = subst (λ (r : Result (Unit {0}) Failed). StagesBlocks now to' (first + n) 1 r new) is one in
+      let p = subst (λ (r : Result (Unit {0}) Failed). StagesBlocks now to' (first + n) k r new) is one in
       record {
         is = is_then (Ok tt) p;
         goes = goes_then s.areas.disk now.areas.disk new.areas.disk tt (Ok tt) so.goes p.goes;
         kept = kept_then (Ok tt) p;
-        staged = λ told. set_more (staged_entry s) (staged_entry now) (staged_entry new) to to' first n same (so.staged told) (p.staged (so.goes.lasts.told told));
-        held = set_more (next_of s) (next_of now) (next_of new) to to' first n same so.held p.held;
-        written = p.written ∙ ap (λ (k : ℕ). raised k 1) so.written ∙ raised-then s.areas.disk.written n 1;
+        staged = λ told. set_more (staged_entry s) (staged_entry now) (staged_entry new) to to' first n k same (so.staged told) (p.staged (so.goes.lasts.told told));
+        held = set_more (next_of s) (next_of now) (next_of new) to to' first n k same so.held p.held;
+        written = p.written ∙ ap (λ (w : ℕ). raised w k) so.written ∙ raised-then s.areas.disk.written n k;
         most = tt;
       }
 
-  pub blocks_fail : (m : ℕ) (e : Failed) (q : Result (Unit {0}) Failed) → n < m → q ≡ Err e → StagesBlocks now to' (first + n) 1 q new → StagesBlocks {T = Unit {0}} s to first m (Err e) new
+  pub blocks_fail : (m : ℕ) (e : Failed) (q : Result (Unit {0}) Failed) → n + k ≤ m → q ≡ Err e → StagesBlocks now to' (first + n) k q new → StagesBlocks {T = Unit {0}} s to first m (Err e) new
   blocks_fail m e q lt is one =
-      let p = subst (λ (r : Result (Unit {0}) Failed). StagesBlocks now to' (first + n) 1 r new) is one in
+      let p = subst (λ (r : Result (Unit {0}) Failed). StagesBlocks now to' (first + n) k r new) is one in
       record {
         is = is_then (Err e) p;
         goes = goes_then s.areas.disk now.areas.disk new.areas.disk tt (Err e) so.goes p.goes;
@@ -133,13 +133,13 @@ module _ (s now new : CompactSet) (to to' : ℕ → ℕ) (first n : ℕ) (same :
         staged = λ told. tt;
         held = tt;
         written = tt;
-        most = (let most : now.areas.disk.written ≤ s.areas.disk.written + n = subst (λ (k : ℕ). k ≤ s.areas.disk.written + n) (sym so.written) (raised_most s.areas.disk.written n) in omega (arith, most, p.most, lt));
+        most = (let most : now.areas.disk.written ≤ s.areas.disk.written + n = subst (λ (w : ℕ). w ≤ s.areas.disk.written + n) (sym so.written) (raised_most s.areas.disk.written n) in omega (arith, most, p.most, lt));
       }
 
 -- ---- a part with those chunks split that are told: of the blocks behind those that were staged
 
 pub split_same : (s now : CompactSet) (bits : List ℕ) (part first n : ℕ) → StagesBlocks {T = Unit {0}} {E = Failed} s (split_to (chunks_of s) bits part (entry_of s) (next_of s)) first n (Ok tt) now
-    → (c : ℕ) → 128 * (first + n) ≤ c → c < 128 * (first + n + 1) → split_to (chunks_of now) bits part (entry_of now) (next_of now) c ≡ split_to (chunks_of s) bits part (entry_of s) (next_of s) c
-split_same s now bits part first n so c low high =
+    → (c : ℕ) → 128 * (first + n) ≤ c → split_to (chunks_of now) bits part (entry_of now) (next_of now) c ≡ split_to (chunks_of s) bits part (entry_of s) (next_of s) c
+split_same s now bits part first n so c low =
     ap (λ (x : CompactSet). split_to (chunks_of x) bits part (entry_of x) (next_of now) c) so.is
     ∙ ap (λ (k : ℕ). cond (nat_lt c (chunks_of s) && told_by bits part c) (cond (eqb (entry_of s c) 0) k (entry_for 2 (slot_by (entry_of s c)))) (entry_of s c)) (so.held.outside c (inr low))

@@ -17,14 +17,16 @@ use Rattle.avs_over.specs.Slots.{Owners, owner_at}
 use Rattle.avs_over.specs.Over.{OverSet, slot_from}
 use Rattle.avs_compact.specs.Entries.{state_by, slot_by, entry_on}
 use Rattle.avs_compact.specs.CompactSet.{CompactSet, disk_of, entry_of, disk_entry, chunks_of, in_slot, shadow_by, master_by, shadow_image, master_image}
-use Rattle.avs_compact.specs.Disks.{Shadow, Over, disk_at}
+use Rattle.avs_compact.specs.Disks.{CompactDisk, Shadow, Over, disk_at, Adds}
+use Rattle.avs_compact.specs.Work.{slot_work, put_work}
 use Rattle.avs_compact.specs.Calls.{AreThere, IsKnown}
 use Rattle.avs_compact.specs.Places.{ArePlaced, OnlyTakes, KeepsOver}
 use Rattle.avs_compact.specs.Steps.{WritesOne}
 use Rattle.avs_compact.specs.Keeping.{IsPlaced}
 use Rattle.avs_compact.specs.Writing.{AreSplit, PutsBlocks, PutsShadow}
 use Rattle.avs_compact.proofs.Counts.{cond_is, cond_not}
-use Rattle.avs_compact.proofs.Copied.{only_slot, other_slots, over_kept, slot_goes, slot_kept, slot_done, slot_failed}
+use Rattle.avs_compact.proofs.Work.{adds_same, adds_as, adds_then, sum_slot, sum_plus, sum_longer}
+use Rattle.avs_compact.proofs.Copied.{only_slot, other_slots, over_kept, slot_goes, slot_adds, slot_kept, slot_done, slot_failed}
 use Rattle.avs_compact.proofs.Readings.{shadow_at}
 use Rattle.avs_compact.proofs.Placed.{only_takes_none}
 use Rattle.avs_compact.proofs.Chained.{over_then}
@@ -244,7 +246,13 @@ module _ (s : CompactSet) (X : Option Seen) (still : is_some X ≡ is_some s.sha
       over = ((go s.areas.disk).lasts Over).told kn.over;
       step = record { each = kn.step.each };
     };
+    work = λ m. adds_as (disk_at s o m) (disk_at after o' m) (slot_work s.own slot len) (put_work s at (length (blocks_of bytes))) r (λ d. sym (put_slot d))
+        (slot_adds (disk_of s.shadow) (disk_of X) o o' s.own slot (at % 64) bytes r w one some m m s.areas.disk refl);
   }
+    where
+      put_slot : (d : CompactDisk) → put_work s at (length (blocks_of bytes)) d ≡ slot_work s.own slot len d
+      put_slot d = ap (λ (n : ℕ). put_work s at n d) (length-blocks_of bytes)
+          ∙ sum_slot s.own slot at len (λ i. slot_by (entry_of s (i / 64))) d (λ i low high. ap (λ (c : ℕ). slot_by (entry_of s c)) (let e : i / 64 ≡ at / 64 = omega (arith, low, high, one) in e))
 
 -- ---- chunk by chunk
 
@@ -262,6 +270,7 @@ puts_none s o at bs = record {
     stopped = tt;
   };
   known = λ kn. kn;
+  work = λ m. adds_same (disk_at s o m) (put_work s at (length (range bs 0 0))) tt (λ d. ap (λ (n : ℕ). put_work s at n d) (length-range bs 0 0));
 }
 
 module _ (a b d : CompactSet) (o o1 o2 : OverSet) (at i n : ℕ) (bs : Image) (fits : i + n ≤ length bs) (inside : at + length bs ≤ a.blocks)
@@ -293,6 +302,17 @@ module _ (a b d : CompactSet) (o o1 o2 : OverSet) (at i n : ℕ) (bs : Image) (f
   long_image : (m : Image) → length (shadow_image a o m) ≡ a.blocks
   long_image m = long_shadow a.blocks a.own (live a.areas) (disk_of a.shadow).image o.disk.image m
 
+  -- the blocks of both
+  put_both : (e : CompactDisk) → put_work a at (length (range bs 0 i)) e + put_work b (at + i) (length (range bs i n)) e ≡ put_work a at (i + n) e
+  put_both e =
+      let f = ap (λ (k : ℕ). put_work a at k e) (length-range bs 0 i) in
+      let h : put_work b (at + i) (length (range bs i n)) e ≡ put_work a (at + i) n e = ap (λ (x : CompactSet). put_work x (at + i) (length (range bs i n)) e) p.is ∙ ap (λ (k : ℕ). put_work a (at + i) k e) (length-range bs i n) in
+      omega (arith, f, h, sum_plus (λ j. slot_work a.own (slot_by (entry_of a (j / 64))) 1 e) at i n)
+
+  adds_both : {T E : Type 0} (r : Result T E) → PutsShadow b o1 (at + i) (range bs i n) r d o2 → (m : Seen) → Adds (disk_at a o m) (put_work a at (i + n)) r (disk_at d o2 m)
+  adds_both r q m = adds_as (disk_at a o m) (disk_at d o2 m) (λ e. put_work a at (length (range bs 0 i)) e + put_work b (at + i) (length (range bs i n)) e) (put_work a at (i + n)) r put_both
+      (adds_then (disk_at a o m) (disk_at b o1 m) (disk_at d o2 m) (put_work a at (length (range bs 0 i))) (put_work b (at + i) (length (range bs i n))) tt r (p.work m) (q.work m))
+
   pub puts_more : (r : Result (Unit {0}) Failed) → r ≡ Ok tt → PutsShadow b o1 (at + i) (range bs i n) r d o2 → PutsShadow {T = Unit {0}} {E = Failed} a o at (range bs 0 (i + n)) (Ok tt) d o2
   puts_more r is one =
       let q = subst (λ (z : Result (Unit {0}) Failed). PutsShadow b o1 (at + i) (range bs i n) z d o2) is one in
@@ -312,6 +332,7 @@ module _ (a b d : CompactSet) (o o1 o2 : OverSet) (at i n : ℕ) (bs : Image) (f
               stopped = tt;
             };
         known = λ kn. q.known (p.known kn);
+        work = λ m. subst (λ (k : ℕ). Adds {E = Failed} (disk_at a o m) (put_work a at k) (Ok tt) (disk_at d o2 m)) (sym (length-range bs 0 (i + n))) (adds_both (Ok tt) q m);
       }
 
   pub puts_fail : {T : Type 0} (e : Failed) (r : Result (Unit {0}) Failed) → r ≡ Err e → PutsShadow b o1 (at + i) (range bs i n) r d o2 → PutsShadow {T = T} a o at bs (Err e) d o2
@@ -334,6 +355,7 @@ module _ (a b d : CompactSet) (o o1 o2 : OverSet) (at i n : ℕ) (bs : Image) (f
                   (subst (λ (l : Image). IsMix l (at + i) (range bs i n) (shadow_image d o2 m)) f.done h.stopped);
             };
         known = λ kn. q.known (p.known kn);
+        work = λ m. record { done = tt; most = λ k. omega (arith, (adds_both (Err e) q m).most k, sum_longer (λ j. slot_work a.own (slot_by (entry_of a (j / 64))) 1 k) at (i + n) (length bs) fits) };
       }
 
 -- the disk that is there has room

@@ -3,7 +3,8 @@ use Rattle.std.proofs.Common.{◌≡◌, inl, inr, ℕ, ◌+◌, ◌/◌, ◌<�
 use Rattle.std.proofs.lemmas.Bool.{cases_lt}
 use Rattle.avs_seg.specs.declared.fault.Failed.{Failed as DiskFailed}
 use Rattle.avs_seg.specs.Image.{Image, put, blocks_of, IsMix}
-use Rattle.avs_seg.specs.Segment.{first_segment, touch_count}
+use Rattle.avs_seg.specs.Segment.{first_segment, touch_count, seg_len}
+use Rattle.avs_seg.proofs.Exits.{ok_exit, err_exit}
 use Rattle.avs_seg.proofs.Blocks.{same_images}
 use Rattle.avs_seg.proofs.Bytes.{length-blocks_of}
 use Rattle.avs_seg.proofs.Mixes.{IsMix-same}
@@ -16,12 +17,15 @@ use Rattle.avs_over.specs.Over.{OverSet}
 use Rattle.avs_compact.specs.declared.fault.CompactFault.{CompactFault}
 use Rattle.avs_compact.specs.declared.fault.CompactFault.TheVariants.{Failed}
 use Rattle.avs_compact.specs.CompactSet.{CompactSet, disk_of, entry_of, disk_entry, chunks_of, shadow_image, master_image, room_of}
-use Rattle.avs_compact.specs.Disks.{Over, disk_at}
+use Rattle.avs_compact.specs.Entries.{state_by, slot_by}
+use Rattle.avs_compact.specs.Disks.{CompactDisk, Over, disk_at, Adds}
+use Rattle.avs_compact.specs.Work.{AddsUpTo, save_work, save_most, saved_work, saved_most, put_work, write_work, write_most}
 use Rattle.avs_compact.specs.Calls.{AreThere, IsKnown}
 use Rattle.avs_compact.specs.Places.{ArePlaced, OnlyTakes, Splits, SplitsFirst}
-use Rattle.avs_compact.specs.Keeping.{IsPlaced, UsesOwnFirst, KeepsBitmap, KeepsBlocks, KeepsSlots, CountsSlots}
+use Rattle.avs_compact.specs.Keeping.{IsPlaced, OwnFirst, UsesOwnFirst, KeepsBitmap, KeepsBlocks, KeepsSlots, CountsSlots}
 use Rattle.avs_compact.specs.Saving.{SavesAll, SavesRange, lacking, need_with}
 use Rattle.avs_compact.specs.Writing.{AreSplit, PutsShadow, KeepsWritten, WritesRange, WritesShadow}
+use Rattle.avs_compact.proofs.Work.{up_to, up_to_as, up_to_then, save_less, sum_below, sum_most}
 use Rattle.avs_compact.proofs.Placed.{only_takes_none}
 use Rattle.avs_compact.proofs.Readings.{shadow_at}
 use Rattle.avs_compact.proofs.Chained.{slots_then, over_then}
@@ -71,6 +75,7 @@ module _ (a b : CompactSet) (o o1 : OverSet) (m m1 : Seen) (at : ℕ) (bytes : L
       slots = p.keeps.slots;
       over = p.keeps.over;
       master = λ kn placed td. record { image = master_kept a b o o1 m.image m1.image p.keeps.shape.blocks (p.keeps.blocks kn placed td); alike = (p.keeps.blocks kn placed td).alike };
+      own_first = p.keeps.own_first;
     };
     done = λ kn placed td. tt;
     stopped = λ kn placed td.
@@ -81,6 +86,7 @@ module _ (a b : CompactSet) (o o1 : OverSet) (m m1 : Seen) (at : ℕ) (bytes : L
           mix = subst (λ (l : Image). IsMix (shadow_image a o m.image) at (blocks_of bytes) l) (sym image) (IsMix-same (shadow_image a o m.image) at (blocks_of bytes));
         };
     counts = tt;
+    work = record { done = tt; stopped = λ k. omega (arith, p.work.stopped k) };
   }
 
   pub writes_unsaved : (e : CompactFault) (q : Result (Unit {0}) CompactFault) → q ≡ Err e → SavesRange a o m (first at) (count at bytes) q b o1 m1 → WritesShadow {T = Unit {0}} a o m at bytes (Err e) b o1 m1
@@ -142,10 +148,10 @@ module _ (a b : CompactSet) (o o1 : OverSet) (m m1 : Seen) (at : ℕ) (bytes : L
           own = ap (λ (s : CompactSet). s.own) w.is ∙ p.keeps.shape.own;
           blocks = ap (λ (s : CompactSet). s.blocks) w.is ∙ p.keeps.shape.blocks;
           there = w.there ∙ p.keeps.shape.there;
-          first = ap (λ (s : CompactSet). s.areas.first) w.is ∙ p.keeps.shape.first;
-          len = ap (λ (s : CompactSet). s.areas.len) w.is ∙ p.keeps.shape.len;
+          areas = (ap (λ (s : CompactSet). s.areas.first) w.is ∙ p.keeps.shape.areas.0, ap (λ (s : CompactSet). s.areas.len) w.is ∙ p.keeps.shape.areas.1);
           live_b = ap (λ (s : CompactSet). s.areas.live_b) w.is ∙ p.keeps.shape.live_b;
           next = ap (λ (s : CompactSet). s.next) w.is ∙ p.keeps.shape.next;
+          ahead = ap (λ (s : CompactSet). s.ahead) w.is ∙ p.keeps.shape.ahead;
         };
         goes = goes;
         bitmap = λ told. subst (λ (s : CompactSet). KeepsBitmap a s) (sym w.is) (let k = p.keeps.bitmap told in record { label = k.label; staged = k.staged; clean = λ zeros. record { each = (k.clean zeros).each } });
@@ -155,6 +161,7 @@ module _ (a b : CompactSet) (o o1 : OverSet) (m m1 : Seen) (at : ℕ) (bytes : L
             let kept = p.keeps.blocks kn placed td in
             let puts = w.blocks (p.known kn) (p.keeps.slots.placed placed) m1.image in
             record { image = puts.master ∙ master_kept a b o o1 m.image m1.image p.keeps.shape.blocks kept; alike = λ al. puts.alike (kept.alike al) };
+        own_first = λ kn first. subst (λ (s : CompactSet). OwnFirst (disk_entry s) a.own (chunks_of a) a.ahead) (sym w.is) (p.keeps.own_first kn first);
       }
 
       image_was : IsKnown a o → IsPlaced a o → IsTold m → shadow_image b o1 m1.image ≡ shadow_image a o m.image
@@ -166,6 +173,30 @@ module _ (a b : CompactSet) (o o1 : OverSet) (m m1 : Seen) (at : ℕ) (bytes : L
       splits_put : IsKnown a o → Splits (disk_entry a) (disk_entry d) (chunks_of a) (first at) (first at + touch_count at (length (blocks_of bytes)))
       splits_put kn = subst (λ (s : CompactSet). Splits (disk_entry a) (disk_entry s) (chunks_of a) (first at) (first at + touch_count at (length (blocks_of bytes)))) (sym w.is)
           (subst (λ (k : ℕ). Splits (disk_entry a) (disk_entry b) (chunks_of a) (first at) k) same_end (p.done kn))
+
+    -- the blocks of the chunks, and then those of the range
+    work_put : {T E T' E' : Type 0} (d : CompactSet) (o2 : OverSet) (r : Result T E) → PutsShadow b o1 at (blocks_of bytes) r d o2 → (z : Result T' E') → Adds (disk_at b o1 m1) (put_work b at (length (blocks_of bytes))) z (disk_at d o2 m1)
+        → AddsUpTo (disk_at a o m) (write_work a d at (length bytes / 512)) (write_most a at (length bytes / 512)) z (disk_at d o2 m1)
+    work_put d o2 r w z puts =
+        up_to_as (disk_at a o m) (disk_at d o2 m1) (λ k. saved_work a b (first at) (count at bytes) k + put_work b at (length (blocks_of bytes)) k) (write_work a d at (length bytes / 512))
+        (λ k. saved_most a (first at) (count at bytes) k + put_work b at (length (blocks_of bytes)) k) (write_most a at (length bytes / 512)) z
+        (ok_exit z (λ k. same k)) (err_exit z (λ k. less k))
+        (up_to_then (disk_at a o m) (disk_at b o1 m1) (disk_at d o2 m1) (saved_work a b (first at) (count at bytes)) (put_work b at (length (blocks_of bytes))) (saved_most a (first at) (count at bytes)) (put_work b at (length (blocks_of bytes))) x z
+        (λ k. sum_below (λ c. save_work a.own (state_by (entry_of a c)) (slot_by (entry_of b c)) (seg_len c a.blocks) k) (λ c. save_most (state_by (entry_of a c)) (seg_len c a.blocks) k) (first at) (count at bytes)
+        (λ c. save_less a.own (state_by (entry_of a c)) (slot_by (entry_of b c)) (seg_len c a.blocks) k)) p.work
+        (up_to (disk_at b o1 m1) (disk_at d o2 m1) (put_work b at (length (blocks_of bytes))) (put_work b at (length (blocks_of bytes))) z (λ k. omega arith) puts))
+      where
+        same : (k : CompactDisk) → saved_work a b (first at) (count at bytes) k + put_work b at (length (blocks_of bytes)) k ≡ write_work a d at (length bytes / 512) k
+        same k =
+            let f : saved_work a d (first at) (count at bytes) k ≡ saved_work a b (first at) (count at bytes) k = ap (λ (s : CompactSet). saved_work a s (first at) (count at bytes) k) w.is in
+            let h : put_work d at (length bytes / 512) k ≡ put_work b at (length bytes / 512) k = ap (λ (s : CompactSet). put_work s at (length bytes / 512) k) w.is in
+            let j = ap (λ (n : ℕ). put_work b at n k) (length-blocks_of bytes) in
+            omega (arith, f, h, j)
+
+        less : (k : CompactDisk) → saved_most a (first at) (count at bytes) k + put_work b at (length (blocks_of bytes)) k ≤ write_most a at (length bytes / 512) k
+        less k =
+            let j = ap (λ (n : ℕ). put_work b at n k) (length-blocks_of bytes) in
+            omega (arith, j, sum_most b.own at (length bytes / 512) (λ i. slot_by (entry_of b (i / 64))) k)
 
     module _ (d : CompactSet) (o2 : OverSet) where
       pub writes_put : (y : Unit {0}) (r : Result (Unit {0}) DiskFailed) → r ≡ Ok y → PutsShadow b o1 at (blocks_of bytes) r d o2 → WritesShadow {T = Unit {0}} a o m at bytes (Ok tt) d o2 m1
@@ -182,6 +213,7 @@ module _ (a b : CompactSet) (o o1 : OverSet) (m m1 : Seen) (at : ℕ) (bytes : L
               };
               stopped = λ kn placed td. tt;
               counts = counts_put d o2 (Ok y) w;
+              work = work_put d o2 (Ok y) w (Ok tt) (let n = w.work m1 in record { done = n.done; most = tt });
             };
             cause = λ _. tt;
           }
@@ -200,6 +232,7 @@ module _ (a b : CompactSet) (o o1 : OverSet) (m m1 : Seen) (at : ℕ) (bytes : L
                 mix = subst (λ (l : Image). IsMix l at (blocks_of bytes) (shadow_image d o2 m1.image)) (image_was d o2 (Err e) w kn placed td) (w.blocks (p.known kn) (p.keeps.slots.placed placed) m1.image).stopped;
               };
               counts = tt;
+              work = work_put d o2 (Err e) w (Err Failed) (let n = w.work m1 in record { done = tt; most = n.most });
             };
             cause = λ _. refl;
           }

@@ -9,9 +9,10 @@ use Rattle.avs_over.specs.Over.{OverSet}
 use Rattle.avs_compact.specs.Entries.{split, slot_by, entry_for, area_len}
 use Rattle.avs_compact.specs.CompactSet.{CompactSet, disk_of, chunks_of, entry_of, next_of, in_slot, need_of, room_of, is_own, is_over}
 use Rattle.avs_compact.specs.Disks.{disk_at}
+use Rattle.avs_compact.specs.Work.{AddsUpTo, ahead_work, ahead_most}
 use Rattle.avs_compact.specs.Places.{KeepsOver}
 use Rattle.avs_compact.specs.Calls.{IsKnown}
-use Rattle.avs_compact.specs.Keeping.{IsPlaced, KeepsSlots, KeepsBlocks}
+use Rattle.avs_compact.specs.Keeping.{IsPlaced, AreOwnFull, KeepsSlots, KeepsBlocks}
 use Rattle.avs_compact.specs.Staging.{told_by, is_ahead, lacking_told, part_end, StagesBlocks}
 
 -- the slot that is kept for a chunk
@@ -46,7 +47,8 @@ abbrev pub kept_count : (ℕ → Bool) → CompactSet → (ℕ → Bool) → ℕ
 kept_count test s told first end = length (filter (λ c. told c && test (next_of s c)) (range_with_len first (end - first)))
 
 -- Of the chunks from `first` up to `end` those of a list get slots that are kept for them, each its own. The set has room for so many less:
--- it keeps so many of its own slots more, and so many more of the overflow volume are given to it.
+-- it keeps so many of its own slots more, and so many more of the overflow volume are given to it, of which one is only where all own
+-- ones are used or kept.
 pub record KeepsSlotsFor (old : CompactSet) (o : OverSet) (told : ℕ → Bool) (first end : ℕ) (new : CompactSet) (o_new : OverSet) : Type 0 where
   pub kept : (c : ℕ) → first ≤ c → c < end → told c ≡ true → IsKeptFor old o c new o_new
   pub others : (c : ℕ) → (c < first) ⊎ ((end ≤ c) ⊎ (told c ≡ false)) → next_of new c ≡ next_of old c
@@ -55,6 +57,7 @@ pub record KeepsSlotsFor (old : CompactSet) (o : OverSet) (told : ℕ → Bool) 
   pub low : old.low ≤ new.low
   pub own : new.ahead ≡ old.ahead + kept_count (is_own old.own) new told first end
   pub over : given_to old.set o_new.owners ≡ given_to old.set o.owners + kept_count (is_over old.own) new told first end
+  pub own_first : AreOwnFull old ⊎ (0 < kept_count (is_over old.own) new told first end) → AreOwnFull new
 
 -- those chunks stand in their slots as on the master, and the other slots as before
 pub record AreCopied (old : CompactSet) (o : OverSet) (m : Image) (told : ℕ → Bool) (first end : ℕ) (new : CompactSet) (o_new : OverSet) : Type 0 where
@@ -67,6 +70,8 @@ pub record CopiesTold {T E : Type 0} (old : CompactSet) (o : OverSet) (m : Seen)
   pub keeps : KeepsAhead old o m result new o_new m_new
   pub kept : OnOk result (KeepsSlotsFor old o told first end new o_new)
   pub copied : IsTold m → IsTold (disk_of old.shadow) → IsTold o.disk → OnOk result (AreCopied old o m.image told first end new o_new)
+  pub work : AddsUpTo (disk_at old o m) (ahead_work old new told first (end - first)) (ahead_most old told first (end - first)) result
+      (disk_at new o_new m_new)
 
 -- how many blocks of entries a part has, of so many chunks
 abbrev pub part_blocks : ℕ → ℕ → ℕ

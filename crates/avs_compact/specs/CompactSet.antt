@@ -124,7 +124,7 @@ abbrev pub room_by_rule : CompactSet → OverSet → ℕ
 room_by_rule s o = s.own + (slots o - others_use s.set o)
 
 -- Of its overflow volume the set has taken as many slots as it uses, and it keeps none of its own. This holds where no call on the two
--- has failed, but while chunks are copied ahead for an update.
+-- has failed, but while chunks are copied ahead for an update, and between the turn of one that gives slots up and `release_set`.
 abbrev pub HasTaken : CompactSet → OverSet → Type 0
 HasTaken s o = (given_to s.set o.owners ≡ over_used s) × (s.ahead ≡ 0)
 

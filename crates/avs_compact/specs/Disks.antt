@@ -1,7 +1,6 @@
--- The four disks that a call works on, each by its name, and counts of written blocks.
-use Rattle.std.specs.Prelude.{ℕ, ◌==◌, if◌then◌else◌}
+-- The four disks that a call works on, each by its name.
 use Rattle.avs_dev.specs.Seen.{Seen}
-use Rattle.avs_dev.specs.Memory.{counted}
+pub use Rattle.avs_dev.specs.Devices.{raised, Adds}
 use Rattle.avs_over.specs.Over.{OverSet}
 use Rattle.avs_compact.specs.CompactSet.{CompactSet, disk_of}
 
@@ -21,7 +20,3 @@ four master shadow bitmap over Over = over
 -- a disk of a set with its master and its overflow volume
 abbrev pub disk_at : CompactSet → OverSet → Seen → CompactDisk → Seen
 disk_at s o m = four m (disk_of s.shadow) s.areas.disk o.disk
-
--- a count of written blocks, raised
-abbrev pub raised : ℕ → ℕ → ℕ
-raised written more = if more == 0 then written else counted written more

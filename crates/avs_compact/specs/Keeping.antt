@@ -6,8 +6,9 @@ use Rattle.avs_dev.specs.Devices.{AllGoOn}
 use Rattle.avs_flip.specs.Areas.{staged}
 use Rattle.avs_over.specs.Over.{OverSet}
 use Rattle.avs_compact.specs.Entries.{on_both, split, on_shadow, state_by, slot_by}
-use Rattle.avs_compact.specs.CompactSet.{CompactSet, disk_of, entry_of, disk_entry, chunks_of, in_slot, need_of, own_used, over_used, HasTaken, room_of}
+use Rattle.avs_compact.specs.CompactSet.{CompactSet, disk_of, entry_of, disk_entry, chunks_of, in_slot, need_of, is_own, is_over, count_of, HasTaken, own_used, room_of}
 use Rattle.avs_compact.specs.Disks.{disk_at}
+use Rattle.avs_compact.specs.Work.{AddsUpTo, settled_work, settled_most}
 use Rattle.avs_compact.specs.Places.{ArePlaced, OnlyTakes, KeepsOver, SetsEntry, AreSame}
 use Rattle.avs_compact.specs.Calls.{AreThere, IsKnown}
 
@@ -15,10 +16,18 @@ use Rattle.avs_compact.specs.Calls.{AreThere, IsKnown}
 abbrev pub IsPlaced : CompactSet → OverSet → Type 0
 IsPlaced s o = ArePlaced (entry_of s) s.own (chunks_of s) s.set o.owners
 
+-- of n entries some have slots of the overflow volume only where all own slots stand in them, but so many that are kept
+abbrev pub OwnFirst : (ℕ → ℕ) → ℕ → ℕ → ℕ → Type 0
+OwnFirst entries own n kept = 0 < count_of (is_over own) entries n → count_of (is_own own) entries n + kept ≡ own
+
 -- Slots of the overflow volume are used only where all of the set's own are used or kept: where none is kept, it uses there what it
 -- needs beyond its own.
 abbrev pub UsesOwnFirst : CompactSet → Type 0
-UsesOwnFirst s = 0 < over_used s → own_used s + s.ahead ≡ s.own
+UsesOwnFirst s = OwnFirst (entry_of s) s.own (chunks_of s) s.ahead
+
+-- all of the set's own slots are used or kept
+abbrev pub AreOwnFull : CompactSet → Type 0
+AreOwnFull s = own_used s + s.ahead ≡ s.own
 
 -- what stands in the slot of a chunk, over the images of the shadow's disk and of the overflow volume
 abbrev pub stands : CompactSet → OverSet → ℕ → Block
@@ -39,16 +48,16 @@ pub record IsAlike (s : CompactSet) (o : OverSet) (m : Image) : Type 0 where
 pub record IsCleanOnDisk (s : CompactSet) : Type 0 where
   pub each : (c : ℕ) → chunks_of s ≤ c → disk_entry s c ≡ 0
 
--- what no call on the contents changes
+-- what no call on the contents changes that copies no chunk ahead
 pub record IsSameShape (old new : CompactSet) : Type 0 where
   pub set : new.set ≡ old.set
   pub own : new.own ≡ old.own
   pub blocks : new.blocks ≡ old.blocks
   pub there : is_some new.shadow ≡ is_some old.shadow
-  pub first : new.areas.first ≡ old.areas.first
-  pub len : new.areas.len ≡ old.areas.len
+  pub areas : (new.areas.first ≡ old.areas.first) × (new.areas.len ≡ old.areas.len)
   pub live_b : new.areas.live_b ≡ old.areas.live_b
   pub next : new.next ≡ old.next
+  pub ahead : new.ahead ≡ old.ahead
 
 -- Of the bitmap's disk no call on the contents changes the label, or what is staged. What is behind the last chunk stays zeros.
 pub record KeepsBitmap (old new : CompactSet) : Type 0 where
@@ -76,7 +85,7 @@ pub record KeepsSlots (old : CompactSet) (o : OverSet) (new : CompactSet) (o_new
   pub own_first : UsesOwnFirst old → UsesOwnFirst new
   pub owners : OnlyTakes old.set o.owners o_new.owners
 
--- what each call on the contents keeps, at both exits
+-- What each call on the contents keeps, at both exits. That own slots come first holds of the entries on the disk too, which `load` finds.
 pub record KeepsSet {T E : Type 0} (old : CompactSet) (o : OverSet) (m : Seen) (result : Result T E) (new : CompactSet) (o_new : OverSet) (m_new : Seen) : Type 0 where
   pub shape : IsSameShape old new
   pub goes : AllGoOn (disk_at old o m) result (disk_at new o_new m_new)
@@ -84,6 +93,7 @@ pub record KeepsSet {T E : Type 0} (old : CompactSet) (o : OverSet) (m : Seen) (
   pub slots : KeepsSlots old o new o_new
   pub over : IsPlaced old o → IsTold o.disk → KeepsOver old.set o o_new
   pub blocks : IsKnown old o → IsPlaced old o → IsTold m → KeepsBlocks old o m.image new o_new m_new.image
+  pub own_first : IsKnown old o → UsesOwnFirst old → OwnFirst (disk_entry new) old.own (chunks_of old) old.ahead
 
 -- so many slots more are needed, and the room stays; where the set had taken what it uses, it has
 pub record CountsSlots (old : CompactSet) (o : OverSet) (more : ℕ) (new : CompactSet) (o_new : OverSet) : Type 0 where
@@ -110,6 +120,7 @@ pub record Settles {T E : Type 0} (old : CompactSet) (o : OverSet) (m : Seen) (c
   pub memory : OnOk result (SetsEntry (entry_of old) (entry_of new) (chunks_of old) chunk target)
   pub unset : OnErr result (new.memory ≡ old.memory)
   pub counts : OnOk result (CountsSlots old o (if entry_of old chunk == 0 then 1 else 0) new o_new)
+  pub work : AddsUpTo (disk_at old o m) (settled_work old new chunk) (settled_most old chunk) result (disk_at new o_new m_new)
 
 -- a call that does nothing
 pub record DoesNothing (old : CompactSet) (o : OverSet) (m : Seen) (new : CompactSet) (o_new : OverSet) (m_new : Seen) : Type 0 where

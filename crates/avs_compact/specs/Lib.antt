@@ -1,9 +1,11 @@
 pub mod Entries
 pub mod Disks
 pub mod CompactSet
+pub mod Work
 pub mod Slots
 pub mod Places
 pub mod Counting
+pub mod Tallied
 pub mod Calls
 pub mod Steps
 pub mod Keeping
@@ -13,4 +15,6 @@ pub mod Writing
 pub mod Making
 pub mod Arming
 pub mod Staging
+pub mod Working
 pub mod Ahead
+pub mod Updating

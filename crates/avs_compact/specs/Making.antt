@@ -11,8 +11,9 @@ use Rattle.avs_code.specs.Label.{IsLabel, IsBadLabel, label_block}
 use Rattle.avs_flip.specs.Areas.{Areas, live}
 use Rattle.avs_over.specs.Over.{OverSet}
 use Rattle.avs_compact.specs.Entries.{area_len, blocks_for, entry_in, entry_on}
-use Rattle.avs_compact.specs.CompactSet.{CompactSet, entry_of, chunks_of, own_slots, shadow_image, master_image, IsInStep, HasLabel, compact_use, compact_label}
+use Rattle.avs_compact.specs.CompactSet.{CompactSet, entry_of, disk_entry, chunks_of, own_slots, shadow_image, master_image, IsInStep, HasLabel, compact_use, compact_label}
 use Rattle.avs_compact.specs.Slots.{AreEntries, HasBadEntry}
+use Rattle.avs_compact.specs.Keeping.{OwnFirst, UsesOwnFirst}
 
 -- the areas of a set of so many blocks on a disk: they lie behind the label
 abbrev pub areas_on : Seen → ℕ → Bool → Areas
@@ -37,14 +38,18 @@ own_of (Some d) = own_slots d.size
 abbrev pub formatted : ℕ → Image
 formatted blocks = label_block (compact_label blocks) ∷ blank (2 * area_len (seg_count blocks))
 
+-- a bitmap's disk once the label and both areas of a set were written
+pub record IsFormatted (old : Seen) (blocks : ℕ) (new : Seen) : Type 0 where
+  pub lasts : Lasts old new
+  pub spared : IsSpared old new
+  pub counted : new.written ≡ counted old.written (blocks_for (seg_count blocks))
+
 -- A new set: the label and both areas are written, and nothing of the shadow is. No chunk has a slot, so both images are the
 -- master's.
 pub record Makes (set : ℕ) (shadow bitmap : Seen) (blocks : ℕ) (new : CompactSet) : Type 0 where
   pub is : new ≡ record { set = set; own = own_slots shadow.size; shadow = Some shadow; areas = areas_on new.areas.disk blocks false; memory = new.memory; next = new.next; blocks = blocks; low = 0; ahead = 0 }
   pub fits : Fits bitmap.size blocks
-  pub lasts : Lasts bitmap new.areas.disk
-  pub spared : IsSpared bitmap new.areas.disk
-  pub counted : new.areas.disk.written ≡ counted bitmap.written (blocks_for (seg_count blocks))
+  pub written : IsFormatted bitmap blocks new.areas.disk
   pub on_disk : IsTold bitmap → HasLabel new × (new.areas.disk.image ≡ put bitmap.image 0 (formatted blocks))
   pub entries : (c : ℕ) → entry_of new c ≡ 0
   pub step : IsTold bitmap → IsInStep new
@@ -74,13 +79,14 @@ pub record IsNotLabel (block : Block) (blocks field : ℕ) : Type 0 where
   pub bad : IsBadLabel block (compact_use blocks) field
   pub other : IsLabel block (compact_label blocks) → ⊥
 
--- a set that is found on disks: nothing of them changes
+-- A set that is found on disks: nothing of them changes. It uses own slots first where the entries on the disk do.
 pub record Loads (set : ℕ) (shadow : Option Seen) (bitmap : Seen) (blocks : ℕ) (live_b : Bool) (new : CompactSet) : Type 0 where
   pub is : new ≡ record { set = set; own = own_of shadow; shadow = shadow; areas = areas_on bitmap blocks live_b; memory = new.memory; next = new.next; blocks = blocks; low = 0; ahead = 0 }
   pub fits : Fits bitmap.size blocks
   pub label : IsTold bitmap → HasLabel new
   pub entries : AreEntries (entry_of new) new.own (chunks_of new)
   pub step : IsTold bitmap → IsInStep new
+  pub own_first : IsTold bitmap → OwnFirst (disk_entry new) new.own (chunks_of new) 0 → UsesOwnFirst new
 
 -- The first of these rules is broken: the label is that of the set, and its entries keep their form.
 abbrev pub IsBadBitmap : Image → Image → ℕ → ℕ → ℕ → Type 0

@@ -7,6 +7,8 @@ use Rattle.avs_compact.specs.declared.fault.CompactFault.{CompactFault}
 use Rattle.avs_compact.specs.declared.fault.CompactFault.TheVariants.{Offline, Failed}
 use Rattle.avs_compact.specs.Entries.{split, state_by}
 use Rattle.avs_compact.specs.CompactSet.{CompactSet, entry_of, disk_entry, chunks_of, need_of, room_of}
+use Rattle.avs_compact.specs.Disks.{disk_at}
+use Rattle.avs_compact.specs.Work.{AddsUpTo, saved_work, saved_most}
 use Rattle.avs_compact.specs.Places.{Splits, SplitsFirst}
 use Rattle.avs_compact.specs.Calls.{IsKnown}
 use Rattle.avs_compact.specs.Keeping.{KeepsSet, CountsSlots, Settles, DoesNothing}
@@ -32,6 +34,7 @@ pub record SavesAll {T E : Type 0} (old : CompactSet) (o : OverSet) (m : Seen) (
   pub known : IsKnown old o → OnOk result (IsKnown new o_new)
   pub memory : OnOk result (Splits (entry_of old) (entry_of new) (chunks_of old) first (first + count))
   pub counts : OnOk result (CountsSlots old o (lacking old first count) new o_new)
+  pub work : AddsUpTo (disk_at old o m) (saved_work old new first count) (saved_most old first count) result (disk_at new o_new m_new)
 
 -- nothing is done, and the answer tells the two numbers
 pub record GoesOffline {T : Type 0} (old : CompactSet) (o : OverSet) (m : Seen) (need : ℕ) (result : Result T CompactFault) (new : CompactSet) (o_new : OverSet) (m_new : Seen) : Type 0 where

@@ -2,13 +2,15 @@
 use Rattle.std.specs.Prelude.{◌≡◌, ◌≢◌, ◌⊎◌, ℕ, ◌+◌, ◌-◌, ◌*◌, ◌/◌, ◌<◌, ◌≤◌, List, length, Option, None, Some, IfSome, IfNone, Result, IsOk, OnOk, OnErr}
 use Rattle.avs_seg.specs.Image.{Image, block_at, ChangesWithin}
 use Rattle.avs_dev.specs.Seen.{Seen, IsTold, GoesOn, Writes}
-use Rattle.avs_dev.specs.Devices.{AllGoOn}
+use Rattle.avs_dev.specs.Memory.{counted}
+use Rattle.avs_dev.specs.Devices.{AllGoOn, Adds}
 use Rattle.avs_flip.specs.Areas.{Areas, live, staged, live_from}
 use Rattle.avs_over.specs.Slots.{Owners, owner_at}
 use Rattle.avs_over.specs.Over.{OverSet, Takes, WritesSlot, slots, used, slot_from}
 use Rattle.avs_compact.specs.Entries.{on_shadow, state_by, slot_by, entry_in, entry_on}
 use Rattle.avs_compact.specs.CompactSet.{in_slot}
 use Rattle.avs_compact.specs.Disks.{four}
+use Rattle.avs_compact.specs.Work.{slot_work, out_work}
 
 -- the slots of a table from one on are given to chunks
 pub record AreUsedFrom (table : Owners) (low : ℕ) : Type 0 where
@@ -48,6 +50,7 @@ pub record CopiesIn {T E : Type 0} (m s : Seen) (o : OverSet) (own slot at len :
   pub others : IsTold s → IsTold o.disk → OtherSlots own slot s.image o.disk.image s_new.image o_new.disk.image
   pub copied : IsTold m → IsTold s → IsTold o.disk
       → OnOk result ((i : ℕ) → i < len → in_slot own s_new.image o_new.disk.image slot i ≡ block_at m.image (at + i))
+  pub work : (b : Seen) → Adds (four m s b o.disk) (slot_work own slot len) result (four m_new s_new b o_new.disk)
 
 -- blocks of a slot are copied to the master
 pub record CopiesOut {T E : Type 0} (m s : Seen) (o : OverSet) (own slot at len : ℕ) (result : Result T E) (m_new s_new : Seen) (o_new : OverSet) : Type 0 where
@@ -57,6 +60,7 @@ pub record CopiesOut {T E : Type 0} (m s : Seen) (o : OverSet) (own slot at len 
   pub within : IsTold m → ChangesWithin at len m.image m_new.image
   pub copied : IsTold m → IsTold s → IsTold o.disk
       → OnOk result ((i : ℕ) → i < len → block_at m_new.image (at + i) ≡ in_slot own s.image o.disk.image slot i)
+  pub work : (b : Seen) → Adds (four m s b o.disk) (out_work len) result (four m_new s_new b o_new.disk)
 
 -- a chunk whose contents stand in its slot alone is copied to the master, and nothing is done for any other
 pub record CopiesBack {T E : Type 0} (entry : ℕ) (m s : Seen) (o : OverSet) (own at len : ℕ) (result : Result T E) (m_new s_new : Seen) (o_new : OverSet) : Type 0 where
@@ -79,11 +83,17 @@ pub record WritesLive {T E : Type 0} (memory : List ℕ) (old : Image) (chunk en
   pub done : OnOk result (HasEntries memory old new chunk entry)
   pub failed : OnErr result ((new ≡ old) ⊎ HasEntries memory old new chunk entry)
 
+-- one block of a disk is written
+pub record WritesBlock {T E : Type 0} (old : Seen) (result : Result T E) (new : Seen) : Type 0 where
+  pub goes : GoesOn old result new
+  pub counted : OnOk result (new.written ≡ counted old.written 1)
+  pub uncounted : OnErr result (new.written ≡ old.written)
+
 -- the entry of a chunk is written, and then kept in memory
 pub record WritesEntry {T E : Type 0} (old : Areas) (memory : List ℕ) (chunk entry : ℕ) (result : Result T E) (new : Areas) (memory_new : List ℕ) : Type 0 where
   pub place : new ≡ record old { disk = new.disk }
   pub len : length memory_new ≡ length memory
-  pub goes : GoesOn old.disk result new.disk
+  pub writes : WritesBlock old.disk result new.disk
   pub staged : IsTold old.disk → staged new ≡ staged old
   pub within : IsTold old.disk → ChangesWithin (live_from old + chunk / 128) 1 old.disk.image new.disk.image
   pub at_exit : IsTold old.disk → WritesLive memory (live old) chunk entry result (live new)

@@ -9,10 +9,11 @@ use Rattle.avs_compact.specs.declared.fault.CompactFault.{CompactFault}
 use Rattle.avs_compact.specs.declared.fault.CompactFault.TheVariants.{Failed}
 use Rattle.avs_compact.specs.Entries.{split, state_by}
 use Rattle.avs_compact.specs.CompactSet.{CompactSet, entry_of, disk_entry, chunks_of, shadow_image, master_image, room_of}
-use Rattle.avs_compact.specs.Disks.{disk_at}
+use Rattle.avs_compact.specs.Disks.{disk_at, Adds}
+use Rattle.avs_compact.specs.Work.{AddsUpTo, put_work, write_work, write_most}
 use Rattle.avs_compact.specs.Places.{KeepsOver, Splits, SplitsFirst}
 use Rattle.avs_compact.specs.Calls.{IsKnown}
-use Rattle.avs_compact.specs.Keeping.{IsPlaced, IsAlike, IsSameShape, KeepsBitmap, KeepsSlots, CountsSlots}
+use Rattle.avs_compact.specs.Keeping.{IsPlaced, OwnFirst, UsesOwnFirst, IsAlike, IsSameShape, KeepsBitmap, KeepsSlots, CountsSlots}
 use Rattle.avs_compact.specs.Saving.{GoesOffline, lacking, need_with}
 
 -- by the memory the chunks of a range are split
@@ -35,6 +36,7 @@ pub record PutsShadow {T E : Type 0} (old : CompactSet) (o : OverSet) (at : ℕ)
   pub over : IsPlaced old o → IsTold o.disk → KeepsOver old.set o o_new
   pub blocks : IsKnown old o → IsPlaced old o → (m : Image) → PutsBlocks old o m at bs result new o_new
   pub known : IsKnown old o → IsKnown new o_new
+  pub work : (m : Seen) → Adds (disk_at old o m) (put_work old at (length bs)) result (disk_at new o_new m)
 
 -- what a write to the shadow leaves: the blocks put into its image, and the chunks of the range split
 pub record WritesAll (old : CompactSet) (o : OverSet) (m : Image) (at : ℕ) (bs : Image) (new : CompactSet) (o_new : OverSet) (m_new : Image) : Type 0 where
@@ -61,6 +63,7 @@ pub record KeepsWritten {T E : Type 0} (old : CompactSet) (o : OverSet) (m : See
   pub slots : KeepsSlots old o new o_new
   pub over : IsPlaced old o → IsTold o.disk → KeepsOver old.set o o_new
   pub master : IsKnown old o → IsPlaced old o → IsTold m → KeepsMaster old o m.image new o_new m_new.image
+  pub own_first : IsKnown old o → UsesOwnFirst old → OwnFirst (disk_entry new) old.own (chunks_of old) old.ahead
 
 -- the chunks of a range are saved, and then the range is written in their slots
 pub record WritesRange {T E : Type 0} (old : CompactSet) (o : OverSet) (m : Seen) (at : ℕ) (bytes : List ℕ) (result : Result T E) (new : CompactSet) (o_new : OverSet) (m_new : Seen) : Type 0 where
@@ -68,6 +71,8 @@ pub record WritesRange {T E : Type 0} (old : CompactSet) (o : OverSet) (m : Seen
   pub done : IsKnown old o → IsPlaced old o → IsTold m → OnOk result (WritesAll old o m.image at (blocks_of bytes) new o_new m_new.image)
   pub stopped : IsKnown old o → IsPlaced old o → IsTold m → OnErr result (StopsWrite old o m.image at (blocks_of bytes) new o_new m_new.image)
   pub counts : OnOk result (CountsSlots old o (lacking old (first_segment at) (touch_count at (length bytes / 512))) new o_new)
+  pub work : AddsUpTo (disk_at old o m) (write_work old new at (length bytes / 512)) (write_most old at (length bytes / 512)) result
+      (disk_at new o_new m_new)
 
 -- A write to the shadow. It is refused exactly where the set would need more slots than it has room for, and changes nothing then.
 pub record WritesShadow {T : Type 0} (old : CompactSet) (o : OverSet) (m : Seen) (at : ℕ) (bytes : List ℕ) (result : Result T CompactFault) (new : CompactSet) (o_new : OverSet) (m_new : Seen) : Type 0 where

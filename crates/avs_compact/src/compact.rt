@@ -3,12 +3,13 @@ ghost use Rattle.std.specs.Prelude.{◌≡◌, ◌*◌, ◌+◌, ◌<◌, ◌≤
 ghost use Rattle.std.specs.Option.{option_map};
 ghost use Rattle.avs_seg.specs.Segment.{seg_count};
 ghost use Rattle.avs_compact.specs.Entries.{entry_in};
-ghost use Rattle.avs_compact.specs.CompactSet.{chunks_of, own_slots};
-ghost use Rattle.avs_compact.specs.Slots.{IsKept, Marks};
+ghost use Rattle.avs_compact.specs.CompactSet.{chunks_of, entry_of, own_slots};
+ghost use Rattle.avs_compact.specs.Slots.{AreEntries, IsKept, Marks};
 ghost use Rattle.avs_compact.specs.Making.{Makes, MakeRefused, Loads, LoadRefused, Fits, areas_on, own_of};
 
 use crate::formats::{Found, Room, area_len, find, format, make_room};
 use crate::marks::Counts;
+use crate::tally::Tally;
 use avs_dev::{Back, Closed2, Disk, Why};
 use avs_flip::Flip;
 use avs_seg::{Failed, SEGMENT, seg_count};
@@ -41,6 +42,8 @@ pub struct Compact<D: Disk> {
     // For each own slot the chunk that has it.
     pub(crate) table: Vec<Option<u32>>,
     pub(crate) counts: Counts,
+    // What the live entries come to.
+    pub(crate) tally: Tally,
     // Each own slot below this one has a chunk, or is kept for one that was copied ahead.
     pub(crate) low: u32,
     // How many of them are kept.
@@ -58,6 +61,7 @@ impl<D: Disk> Model for Compact<D> {
     ghost use Rattle.avs_compact.specs.Entries.{entry_in};
     ghost use Rattle.avs_compact.specs.CompactSet.{CompactSet};
     ghost use Rattle.avs_compact.specs.Slots.{IsKept, Marks, ArePassed};
+    ghost use Rattle.avs_compact.specs.Tallied.{AreTallied};
 
     ghost Value = { CompactSet };
 
@@ -65,7 +69,8 @@ impl<D: Disk> Model for Compact<D> {
 
     ghost invariant = { λ s. IsKept (option_map D.seen s.shadow) s.own s.flip s.memory.items s.next.items s.buffer.items s.blocks
         × Marks (entry_in s.memory.items) s.own (seg_count s.blocks) s.table.items s.counts
-        × ArePassed (entry_in s.memory.items) (seg_count s.blocks) s.table.items s.low s.ahead s.due };
+        × ArePassed (entry_in s.memory.items) (seg_count s.blocks) s.table.items s.low s.ahead s.due
+        × AreTallied (entry_in s.memory.items) s.own (seg_count s.blocks) s.tally };
 }
 
 impl<D: Disk> Compact<D> {
@@ -126,7 +131,8 @@ impl<D: Disk> Compact<D> {
     ) -> Result<Compact<D>, Back<(Option<D>, D), Why>>
         requires { 0 < blocks }
         ensures loaded { IfOk result (λ s. Loads set (option_map D.seen shadow) (D.seen bitmap) blocks live_b s) }
-        ensures refused { IfErr result (λ e. LoadRefused (own_of (option_map D.seen shadow)) (D.seen bitmap) blocks live_b e.why (D.seen e.parts.1)) }
+        ensures refused { IfErr result
+            (λ e. LoadRefused (own_of (option_map D.seen shadow)) (D.seen bitmap) blocks live_b e.why (D.seen e.parts.1)) }
         ensures shadow_back { IfErr result (λ e. option_map D.seen e.parts.0 ≡ option_map D.seen shadow) }
     {
         let own = own_of(&shadow);
@@ -149,9 +155,20 @@ impl<D: Disk> Compact<D> {
         live_b: bool,
         found: Found,
     ) -> Compact<D>
-        requires kept { IsKept (option_map D.seen shadow) own (areas_on (D.seen bitmap) blocks live_b) found.room.memory.items found.room.next.items found.room.buffer.items blocks }
+        requires kept { IsKept (option_map D.seen shadow) own (areas_on (D.seen bitmap) blocks live_b) found.room.memory.items
+            found.room.next.items found.room.buffer.items blocks }
         requires marked { Marks (entry_in found.room.memory.items) own (seg_count blocks) found.room.table.items found.counts }
-        ensures { result ≡ record { set = set; own = own; shadow = option_map D.seen shadow; areas = areas_on (D.seen bitmap) blocks live_b; memory = found.room.memory.items; next = found.room.next.items; blocks = blocks; low = 0; ahead = 0 } }
+        ensures { result ≡ record {
+          set = set;
+          own = own;
+          shadow = option_map D.seen shadow;
+          areas = areas_on (D.seen bitmap) blocks live_b;
+          memory = found.room.memory.items;
+          next = found.room.next.items;
+          blocks = blocks;
+          low = 0;
+          ahead = 0;
+        } }
     {
         let Found { room, counts } = found;
         let Room {
@@ -165,6 +182,7 @@ impl<D: Disk> Compact<D> {
             own,
             shadow,
             flip: Flip::load(bitmap, 1, area_len(blocks), live_b),
+            tally: Tally::of(&memory, own, seg_count(blocks)),
             memory,
             next,
             table,
@@ -196,6 +214,13 @@ impl<D: Disk> Compact<D> {
         ensures { result ≡ self.now.own }
     {
         self.own
+    }
+
+    /// A law: entries in memory keep their form, and no own slot stands in two. It makes no call of a disk.
+    pub fn keeps_form(&self)
+        ensures { AreEntries (entry_of self.now) self.now.own (chunks_of self.now) }
+    {
+        let _own = self.own;
     }
 
     /// Whether the shadow's disk is there.

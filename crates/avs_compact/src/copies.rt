@@ -28,7 +28,8 @@ pub(crate) fn copy_in<D: Disk>(
     requires master { span.at + span.len ≤ (D.seen master.old).size }
     requires there { slot < own → IsTrue (is_some shadow.old) }
     requires inside { IsInSlot (disk_of (option_map D.seen shadow.old)) (over_of over.old) own slot 0 (512 * span.len) }
-    ensures copies { CopiesIn (D.seen master.old) (disk_of (option_map D.seen shadow.old)) (over_of over.old) own slot span.at span.len result
+    ensures copies { CopiesIn (D.seen master.old) (disk_of (option_map D.seen shadow.old)) (over_of over.old)
+        own slot span.at span.len result
         (D.seen master.new) (disk_of (option_map D.seen shadow.new)) (over_of over.new) }
     ensures still { is_some shadow.new ≡ is_some shadow.old }
     ensures still_over { is_some over.new ≡ is_some over.old }
@@ -55,7 +56,8 @@ fn copy_out<D: Disk>(
     requires master { span.at + span.len ≤ (D.seen master.old).size }
     requires there { slot < own → IsTrue (is_some shadow.old) }
     requires inside { IsInSlot (disk_of (option_map D.seen shadow.old)) (over_of over.old) own slot 0 (512 * span.len) }
-    ensures copies { CopiesOut (D.seen master.old) (disk_of (option_map D.seen shadow.old)) (over_of over.old) own slot span.at span.len result
+    ensures copies { CopiesOut (D.seen master.old) (disk_of (option_map D.seen shadow.old)) (over_of over.old)
+        own slot span.at span.len result
         (D.seen master.new) (disk_of (option_map D.seen shadow.new)) (over_of over.new) }
     ensures still { is_some shadow.new ≡ is_some shadow.old }
     ensures still_over { is_some over.new ≡ is_some over.old }
@@ -82,7 +84,8 @@ pub(crate) fn copy_back<D: Disk>(
     requires master { span.at + span.len ≤ (D.seen master.old).size }
     requires there { slot_by entry < own → IsTrue (is_some shadow.old) }
     requires inside { IsInSlot (disk_of (option_map D.seen shadow.old)) (over_of over.old) own (slot_by entry) 0 (512 * span.len) }
-    ensures copies { CopiesBack entry (D.seen master.old) (disk_of (option_map D.seen shadow.old)) (over_of over.old) own span.at span.len result
+    ensures copies { CopiesBack entry (D.seen master.old) (disk_of (option_map D.seen shadow.old)) (over_of over.old)
+        own span.at span.len result
         (D.seen master.new) (disk_of (option_map D.seen shadow.new)) (over_of over.new) }
     ensures still { is_some shadow.new ≡ is_some shadow.old }
     ensures still_over { is_some over.new ≡ is_some over.old }

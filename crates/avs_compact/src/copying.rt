@@ -42,6 +42,9 @@ impl<D: Disk> Compact<D> {
         ensures finds { FindsDue (entry_of self.old) (chunks_of self.old) result }
         ensures same { self.new ≡ self.old }
     {
+        if self.tally.back == 0 {
+            return None;
+        }
         let end = seg_count(self.blocks);
         let found = first_due(&self.memory, self.due, end);
         self.due = passed(found, end);

@@ -1,36 +1,17 @@
 // How many slots a set needs and has, and how many of its chunks are in a state.
-ghost use Rattle.std.specs.Prelude.{◌≡◌, ◌≢◌, ◌+◌, ◌*◌, ◌-◌, ◌<◌, ◌≤◌, ◌^◌, ◌==◌, IsTrue, not, IsOk, IfOk, IfSome, IfNone, true, false, if◌then◌else◌, length};
+ghost use Rattle.std.specs.Prelude.{◌≡◌, ◌-◌, ◌<◌, ◌≤◌, ◌^◌, IsTrue, not, IsOk, IfOk, IfSome, IfNone, true, false};
 ghost use Rattle.avs_over.specs.Over.{slots, used};
-ghost use Rattle.avs_compact.specs.Entries.{entry_in, code_of, state_by, slot_by, on_shadow, split};
-ghost use Rattle.avs_compact.specs.CompactSet.{chunks_of, entry_of, over_of, need_of, room_of, room_by_rule, HasTaken, is_over, count_of};
+ghost use Rattle.avs_compact.specs.Entries.{code_of, state_by, slot_by, on_shadow, split};
+ghost use Rattle.avs_compact.specs.CompactSet.{chunks_of, entry_of, over_of, need_of, over_used, room_of, room_by_rule, HasTaken, is_over, count_of};
 ghost use Rattle.avs_compact.specs.Counting.{FindsOver, is_in};
 ghost use Rattle.avs_compact.specs.Calls.{AreThere, LacksSlot};
+ghost use Rattle.avs_compact.specs.Keeping.{UsesOwnFirst};
 
 use crate::compact::Compact;
 use crate::entries::{ChunkState, entry_in, slot_by, state_by};
 use avs_dev::Disk;
 use avs_over::Over;
 use avs_seg::{Failed, seg_count};
-
-// 1 where an entry tells a state.
-fn one_in(entry: u32, state: ChunkState) -> u32
-    ensures { result ≡ (if is_in (code_of state) entry then 1 else 0) }
-{
-    if state_by(entry) == state { 1 } else { 0 }
-}
-
-// How many of the first entries tell a state.
-fn count_in(bytes: &[u8], end: u32, state: ChunkState) -> u32
-    requires { 4 * end ≤ length bytes.now }
-    ensures counted { result ≡ count_of (is_in (code_of state)) (entry_in bytes.now) end }
-    ensures most { result ≤ end }
-{
-    let mut count = 0;
-    for chunk in 0..end {
-        count += one_in(entry_in(bytes, chunk), state);
-    }
-    count
-}
 
 // The slot of the overflow volume that an entry tells.
 fn over_slot(entry: u32, own: u32) -> Option<u32>
@@ -64,40 +45,21 @@ fn slots_of<D: Disk>(over: &Option<Over<D>>) -> u32
     }
 }
 
-// Whether the slot that an entry tells is one of the set's own, or one of so many.
-fn is_there(entry: u32, own: u32, slots: u32) -> bool
-    ensures there { IsTrue result → entry ≢ 0 → own ≤ slot_by entry → slot_by entry - own < slots }
-    ensures lacks { IsTrue (not result) → (entry ≢ 0) × ((own ≤ slot_by entry) × (slots ≤ slot_by entry - own)) }
-{
-    if entry == 0 {
-        return true;
-    }
-    let slot = slot_by(entry);
-    if slot < own {
-        return true;
-    }
-    slot - own < slots
-}
-
 impl<D: Disk> Compact<D> {
     /// Whether the slots that stand in the set's entries are there, in this overflow volume.
     pub fn is_served(&self, over: &Option<Over<D>>) -> bool
         ensures served { IsTrue result → AreThere self.now (over_of over.now) }
         ensures lacks { IsTrue (not result) → LacksSlot self.now (over_of over.now) }
     {
-        let slots = slots_of(over);
-        for chunk in 0..seg_count(self.blocks) {
-            if !is_there(entry_in(&self.memory, chunk), self.own, slots) {
-                return false;
-            }
-        }
-        true
+        self.tally.fits(slots_of(over))
     }
 
-    /// How many slots the set needs: one for each chunk that was touched.
+    /// How many slots the set needs: one for each chunk that was touched. Where its own ones come first and none is kept, it
+    /// uses of the overflow volume what it needs beyond them.
     pub fn need(&self) -> u32
         ensures counted { result ≡ need_of self.now }
         ensures most { result ≤ chunks_of self.now }
+        ensures beyond { UsesOwnFirst self.now → self.now.ahead ≡ 0 → over_used self.now ≡ result - self.now.own }
     {
         self.counts.own + self.counts.over
     }
@@ -116,7 +78,7 @@ impl<D: Disk> Compact<D> {
         ensures counted { result ≡ count_of (is_in on_shadow) (entry_of self.now) (chunks_of self.now) }
         ensures most { result ≤ chunks_of self.now }
     {
-        count_in(&self.memory, seg_count(self.blocks), ChunkState::OnShadow)
+        self.tally.back
     }
 
     /// How many chunks are split.
@@ -124,7 +86,7 @@ impl<D: Disk> Compact<D> {
         ensures counted { result ≡ count_of (is_in split) (entry_of self.now) (chunks_of self.now) }
         ensures most { result ≤ chunks_of self.now }
     {
-        count_in(&self.memory, seg_count(self.blocks), ChunkState::Split)
+        self.tally.split
     }
 
     /// How many chunks are still to be copied to the shadow: none of a dependent set.

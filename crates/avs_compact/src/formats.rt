@@ -173,7 +173,8 @@ fn read_entries<D: Disk>(
     ensures failed { OnErr result (FailsRead (D.seen disk.old) (D.seen disk.new)) }
     ensures len { length memory.new ≡ length memory.old }
     ensures clean { OnOk result (IsClean memory.new (seg_count blocks)) }
-    ensures area { IsTold (D.seen disk.old) → OnOk result (HasArea (live (areas_on (D.seen disk.old) blocks live_b)) (seg_count blocks) memory.new) }
+    ensures area { IsTold (D.seen disk.old)
+        → OnOk result (HasArea (live (areas_on (D.seen disk.old) blocks live_b)) (seg_count blocks) memory.new) }
 {
     disk.read(live_first(blocks, live_b), memory)?;
     clear_from(memory, seg_count(blocks));
@@ -198,7 +199,8 @@ pub(crate) fn find<D: Disk>(
     ensures clean { IfOk result (λ f. IsClean f.room.memory.items (seg_count blocks)) }
     ensures marked { IfOk result (λ f. Marks (entry_in f.room.memory.items) own (seg_count blocks) f.room.table.items f.counts) }
     ensures label { IfOk result (λ _. IsTold (D.seen disk.old) → IsLabel (block_at (D.seen disk.old).image 0) (compact_label blocks)) }
-    ensures area { IfOk result (λ f. IsTold (D.seen disk.old) → HasArea (live (areas_on (D.seen disk.old) blocks live_b)) (seg_count blocks) f.room.memory.items) }
+    ensures area { IfOk result (λ f. IsTold (D.seen disk.old)
+        → HasArea (live (areas_on (D.seen disk.old) blocks live_b)) (seg_count blocks) f.room.memory.items) }
     ensures refused { IfErr result (λ why. LoadRefused own (D.seen disk.old) blocks live_b why (D.seen disk.new)) }
 {
     let mut room = make_room(alloc, own, disk.blocks(), blocks)?;

@@ -18,12 +18,15 @@ mod reading;
 mod saving;
 mod settling;
 mod slots;
+mod stage_work;
 mod staged_parts;
 mod staging;
 mod taking;
+mod tally;
 mod writing;
 
 pub use compact::Compact;
 pub use entries::ChunkState;
 pub use fault::CompactFault;
-pub use laws::updates_turn;
+pub use laws::{parts_turn, updates_turn};
+pub use stage_work::work_is_that_of_stages;

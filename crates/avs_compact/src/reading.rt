@@ -26,7 +26,8 @@ impl<D: Disk> Compact<D> {
         requires blocks { (D.seen master.old).size ≡ self.old.blocks }
         requires there { IsTrue (is_some self.old.shadow) }
         requires slots { AreThere self.old (over_of over.old) }
-        ensures reads { ReadsShadow self.old (over_of over.old) (D.seen master.old) at out.new result self.new (over_of over.new) (D.seen master.new) }
+        ensures reads { ReadsShadow self.old (over_of over.old) (D.seen master.old) at out.new result
+            self.new (over_of over.new) (D.seen master.new) }
         ensures still { is_some over.new ≡ is_some over.old }
         ensures len { length out.new ≡ length out.old }
     {
@@ -52,7 +53,8 @@ impl<D: Disk> Compact<D> {
         requires blocks { (D.seen master.old).size ≡ self.old.blocks }
         requires there { IsTrue (is_some self.old.shadow) }
         requires slots { AreThere self.old (over_of over.old) }
-        ensures { ReadsShadow self.old (over_of over.old) (D.seen master.old) at out.new result self.new (over_of over.new) (D.seen master.new) }
+        ensures { ReadsShadow self.old (over_of over.old) (D.seen master.old) at out.new result
+            self.new (over_of over.new) (D.seen master.new) }
     {
         let count = (out.len() / BLOCK) as u32;
         let mut done = 0;

@@ -65,7 +65,8 @@ impl<D: Disk> Compact<D> {
         requires blocks { (D.seen master.old).size ≡ self.old.blocks }
         requires there { IsTrue (is_some self.old.shadow) }
         requires slots { AreThere self.old (over_of over.old) }
-        ensures { SavesAll self.old (over_of over.old) (D.seen master.old) first count result self.new (over_of over.new) (D.seen master.new) }
+        ensures { SavesAll self.old (over_of over.old) (D.seen master.old) first count result
+            self.new (over_of over.new) (D.seen master.new) }
     {
         for place in 0..count {
             self.save(master, over, first + place)?;
@@ -87,7 +88,8 @@ impl<D: Disk> Compact<D> {
         requires blocks { (D.seen master.old).size ≡ self.old.blocks }
         requires there { IsTrue (is_some self.old.shadow) }
         requires slots { AreThere self.old (over_of over.old) }
-        ensures { SavesRange self.old (over_of over.old) (D.seen master.old) first count result self.new (over_of over.new) (D.seen master.new) }
+        ensures { SavesRange self.old (over_of over.old) (D.seen master.old) first count result
+            self.new (over_of over.new) (D.seen master.new) }
     {
         let need = self.need() + self.lacking(first, count);
         let slots = self.room(over);

@@ -29,7 +29,8 @@ impl<D: Disk> Compact<D> {
         requires room { need_of self.old < room_of self.old (over_of over.old) }
         requires blocks { (D.seen master.old).size ≡ self.old.blocks }
         requires there { IsTrue (is_some self.old.shadow) }
-        ensures { Settles self.old (over_of over.old) (D.seen master.old) chunk split result self.new (over_of over.new) (D.seen master.new) }
+        ensures { Settles self.old (over_of over.old) (D.seen master.old) chunk split result
+            self.new (over_of over.new) (D.seen master.new) }
     {
         let Some(slot) = take_slot(&self.table, self.low, self.set, over) else {
             return Err(Failed);
@@ -39,6 +40,7 @@ impl<D: Disk> Compact<D> {
         copy_in(master, &mut self.shadow, over, self.own, slot, span, buffer)?;
         let entry = entry_for(ChunkState::Split, slot);
         put_entry(&mut self.flip, &mut self.memory, chunk, entry)?;
+        self.tally = self.tally.changed(self.own, 0, entry);
         self.counts = mark_slot(&mut self.table, self.counts, chunk, slot);
         self.low = self.own.min(slot + 1);
         Ok(())
@@ -57,13 +59,16 @@ impl<D: Disk> Compact<D> {
         requires blocks { (D.seen master.old).size ≡ self.old.blocks }
         requires there { IsTrue (is_some self.old.shadow) }
         requires slots { AreThere self.old (over_of over.old) }
-        ensures { Settles self.old (over_of over.old) (D.seen master.old) chunk (code_of target) result self.new (over_of over.new) (D.seen master.new) }
+        ensures { Settles self.old (over_of over.old) (D.seen master.old) chunk (code_of target) result
+            self.new (over_of over.new) (D.seen master.new) }
     {
         let old = entry_in(&self.memory, chunk);
         let span = seg_span(chunk, self.blocks);
         let buffer = &mut self.buffer;
         copy_back(old, master, &mut self.shadow, over, self.own, span, buffer)?;
         let entry = entry_for(target, slot_by(old));
-        put_entry(&mut self.flip, &mut self.memory, chunk, entry)
+        put_entry(&mut self.flip, &mut self.memory, chunk, entry)?;
+        self.tally = self.tally.changed(self.own, old, entry);
+        Ok(())
     }
 }

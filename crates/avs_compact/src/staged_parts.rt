@@ -53,7 +53,8 @@ fn fill_split(next: &mut [u8], memory: &[u8], part: u32, at: u32, split: &[u8; 2
     requires high { at < 16 * (part + 1) }
     requires small { at < 2 ^ 19 }
     ensures len { length next.new ≡ length next.old }
-    ensures set { AreSetTo (entry_in next.old) (entry_in next.new) (split_to chunks split.now part (entry_in memory.now) (entry_in next.old)) (128 * at) (128 * (at + 1)) }
+    ensures set { AreSetTo (entry_in next.old) (entry_in next.new)
+        (split_to chunks split.now part (entry_in memory.now) (entry_in next.old)) (128 * at) (128 * (at + 1)) }
 {
     let first = PART * part;
     for chunk in ENTRIES * at..ENTRIES * (at + 1) {
@@ -111,7 +112,8 @@ impl<D: Disk> Compact<D> {
         requires blocks { (D.seen master.old).size ≡ self.old.blocks }
         requires there { IsTrue (is_some self.old.shadow) }
         ensures { (list : ℕ → Bool) → list chunk ≡ (told && (entry_of self.old chunk == 0))
-            → CopiesTold self.old (over_of over.old) (D.seen master.old) list chunk (chunk + 1) result self.new (over_of over.new) (D.seen master.new) }
+            → CopiesTold self.old (over_of over.old) (D.seen master.old) list chunk (chunk + 1) result
+            self.new (over_of over.new) (D.seen master.new) }
     {
         if !told {
             return Ok(());
@@ -134,7 +136,8 @@ impl<D: Disk> Compact<D> {
         requires room { HasRoomFor self.old (over_of over.old) part split.now }
         requires blocks { (D.seen master.old).size ≡ self.old.blocks }
         requires there { IsTrue (is_some self.old.shadow) }
-        ensures { CopiesPart self.old (over_of over.old) (D.seen master.old) part split.now result self.new (over_of over.new) (D.seen master.new) }
+        ensures { CopiesPart self.old (over_of over.old) (D.seen master.old) part split.now result
+            self.new (over_of over.new) (D.seen master.new) }
     {
         let first = PART * part;
         let end = seg_count(self.blocks).min(first + PART);
@@ -160,7 +163,8 @@ impl<D: Disk> Compact<D> {
     /// copied ahead.
     pub fn stage_split(&mut self, part: u32, split: &[u8; 256]) -> Result<(), Failed>
         requires { 2048 * part < chunks_of self.old }
-        ensures { StagesBlocks self.old (split_of self.old part split.now) (16 * part) (part_blocks (chunks_of self.old) part) result self.new }
+        ensures { StagesBlocks self.old (split_of self.old part split.now) (16 * part) (part_blocks (chunks_of self.old) part)
+            result self.new }
     {
         let blocks = area_len(self.blocks);
         let first = BLOCKS * part;
@@ -185,7 +189,8 @@ impl<D: Disk> Compact<D> {
         requires room { HasRoomFor self.old (over_of over.old) part split.now }
         requires blocks { (D.seen master.old).size ≡ self.old.blocks }
         requires there { IsTrue (is_some self.old.shadow) }
-        ensures { StagesPart self.old (over_of over.old) (D.seen master.old) part split.now result self.new (over_of over.new) (D.seen master.new) }
+        ensures { StagesPart self.old (over_of over.old) (D.seen master.old) part split.now result
+            self.new (over_of over.new) (D.seen master.new) }
     {
         self.copy_part(master, over, part, split)?;
         self.stage_split(part, split)

@@ -8,6 +8,7 @@ use crate::compact::Compact;
 use crate::entries::{ChunkState, ENTRIES, entry_for, entry_in, set_entry, slot_by, state_by};
 use crate::formats::area_len;
 use crate::marks::mark_anew;
+use crate::tally::Tally;
 use avs_dev::Disk;
 use avs_flip::Flip;
 use avs_seg::{BLOCK, Failed, seg_count};
@@ -48,7 +49,8 @@ fn fill_block(next: &mut [u8], memory: &[u8], at: u32, update: Update)
     requires long { length next.old ≡ length memory.now }
     requires small { at < 2 ^ 19 }
     ensures len { length next.new ≡ length next.old }
-    ensures set { AreSetTo (entry_in next.old) (entry_in next.new) (λ c. updated update (entry_in memory.now c)) (128 * at) (128 * (at + 1)) }
+    ensures set { AreSetTo (entry_in next.old) (entry_in next.new) (λ c. updated update (entry_in memory.now c))
+        (128 * at) (128 * (at + 1)) }
 {
     for chunk in ENTRIES * at..ENTRIES * (at + 1) {
         set_entry(next, chunk, updated(update, entry_in(memory, chunk)));
@@ -110,7 +112,9 @@ impl<D: Disk> Compact<D> {
     {
         self.flip.turn();
         mem::swap(&mut self.memory, &mut self.next);
-        self.counts = mark_anew(&mut self.table, &mut self.memory, seg_count(self.blocks));
+        let end = seg_count(self.blocks);
+        self.counts = mark_anew(&mut self.table, &mut self.memory, end);
+        self.tally = Tally::of(&self.memory, self.own, end);
         self.low = 0;
         self.ahead = 0;
         self.due = 0;

@@ -30,8 +30,14 @@ impl<D: Disk> Compact<D> {
         write_slot(&mut self.shadow, over, self.own, slot, at % SEGMENT, bytes)
     }
 
-    // Writes blocks of the shadow whose chunks are split, chunk by chunk.
-    fn put_all(&mut self, over: &mut Option<Over<D>>, at: u32, bytes: &[u8]) -> Result<(), Failed>
+    /// Writes blocks of the shadow whose chunks are split, chunk by chunk, and nothing else. An owner of several sets saves
+    /// the chunks in all of them first.
+    pub fn put_shadow(
+        &mut self,
+        over: &mut Option<Over<D>>,
+        at: u32,
+        bytes: &[u8],
+    ) -> Result<(), Failed>
         requires some { 0 < length bytes.now }
         requires whole { 512 * (length bytes.now / 512) ≡ length bytes.now }
         requires inside { at + length bytes.now / 512 ≤ self.old.blocks }
@@ -68,12 +74,13 @@ impl<D: Disk> Compact<D> {
         requires blocks { (D.seen master.old).size ≡ self.old.blocks }
         requires there { IsTrue (is_some self.old.shadow) }
         requires slots { AreThere self.old (over_of over.old) }
-        ensures { WritesShadow self.old (over_of over.old) (D.seen master.old) at bytes.now result self.new (over_of over.new) (D.seen master.new) }
+        ensures { WritesShadow self.old (over_of over.old) (D.seen master.old) at bytes.now result
+            self.new (over_of over.new) (D.seen master.new) }
     {
         let first = at / SEGMENT;
         let count = seg_count(at + (bytes.len() / BLOCK) as u32) - first;
         self.save_before(master, over, first, count)?;
-        self.put_all(over, at, bytes)?;
+        self.put_shadow(over, at, bytes)?;
         Ok(())
     }
 }

@@ -1,4 +1,4 @@
-use Rattle.avs_compact.proofs.Updated.{updated_known, updated_entries, entries_zero, master_placed, placed_entries}
+use Rattle.avs_compact.proofs.Updated.{updated_known, updated_entries, entries_zero, master_placed, placed_entries, master_leaves, given_up}
 use Rattle.avs_compact.proofs.laws.updates_turn.Goals as goal
 
 pub returns-clause-known : goal.returns-clause-known
@@ -15,3 +15,9 @@ returns-clause-master c = λ f own n set owners p. master_placed f own n set own
 
 pub returns-clause-placed : goal.returns-clause-placed
 returns-clause-placed c = λ f own n set owners p. placed_entries f own n set owners p
+
+pub returns-clause-slots : goal.returns-clause-slots
+returns-clause-slots c = λ old mid new o st tn placed. master_leaves old mid new o st tn placed
+
+pub returns-clause-given_up : goal.returns-clause-given_up
+returns-clause-given_up c = λ old mid new o o2 st tn gives. given_up old mid new o o2 st tn gives

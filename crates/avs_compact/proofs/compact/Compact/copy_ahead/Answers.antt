@@ -36,7 +36,7 @@ returns-in_err-copy_in g c =
     let is : c.from_residual.result ≡ Err c.in_err-copy_in.field-0.0 = search rules in
     rw is (rw (← c.self.view_is) (λ told listed. told_fails s c.args.chunk c.in-Some.slot (over_of c.args.over.now) (over_of c.take_slot.new.over) (over_of c.copy_in.new.over) i.table.items i.counts c.self.invariant.1 c.self.invariant.2.inside c.self.invariant.2.kept t there none
     (option_map seen c.copy_in.new.shadow) (search rules) (seen c.args.master.now) (seen c.copy_in.new.master) c.copy_in.result c.seg_span-span.result.at c.seg_span-span.result.len c.seg_span-span.ensures.at c.seg_span-span.ensures.len c.copy_in.ensures.copies
-    told c.in_err-copy_in.field-0.0 c.in_err-copy_in.was))
+    told listed c.in_err-copy_in.field-0.0 c.in_err-copy_in.was))
 
 pub invariant_of-self : goal.invariant_of-self
 invariant_of-self g c =
@@ -49,6 +49,7 @@ invariant_of-self g c =
           (ap (λ (l : List ℕ). length l) long ∙ (search rules)),
       c.self.invariant.1,
       c.self.invariant.2,
+      c.self.invariant.3,
     )
 
 pub invariant_of-self-2 : goal.invariant_of-self-2
@@ -70,6 +71,7 @@ invariant_of-self-2 g c =
           (subst (λ (l : List ℕ). IsClean l (seg_count i.blocks)) (sym items) (clean_put i.next.items c.set_entry.new.bytes c.args.chunk (seg_count i.blocks) others there k.staged_clean)),
       c.self.invariant.1,
       passed_ahead (entry_in i.memory.items) i.own (seg_count i.blocks) i.table.items i.counts i.low i.ahead i.due c.in-Some.slot i.set (over_of c.args.over.now) (over_of c.take_slot.new.over) c.self.invariant.1 c.self.invariant.2 t _ _ low c.one_own.ensures,
+      c.self.invariant.3,
     )
 
 pub returns : goal.returns

@@ -25,3 +25,6 @@ returns-clause-by_rule g c =
     let m = c.self.invariant.1 in
     let o = over_of c.args.over.now in
     rw (← c.self.view_is) (λ taken. omega (arith, taken, m.over_count, c.free_of.ensures.is, given_most i.set o.owners, count_by-le-length is_some o.owners))
+
+pub returns-clause-is : goal.returns-clause-is
+returns-clause-is g c = rw (← c.self.view_is) (omega (arith, c.self.invariant.1.over_count, c.free_of.ensures.is))

@@ -12,7 +12,9 @@ use Rattle.avs_compact.specs.Slots.{IsClean, Marks, MarksSlot, ArePassed}
 use Rattle.avs_compact.specs.Steps.{TakesSlot, WritesEntry, PutsEntry}
 use Rattle.avs_compact.proofs.Settles.{new_fails, new_settles, settles_err, settles_ok}
 use Rattle.avs_compact.proofs.Counts.{count_most}
-use Rattle.avs_compact.proofs.Again.{kept_again, clean_again, took_marks, took_passed}
+use Rattle.avs_compact.specs.Tallied.{AreTallied, Changes}
+use Rattle.avs_compact.proofs.Again.{kept_again, clean_again, took_marks, took_passed, took_tally}
+use Rattle.avs_compact.proofs.Tallied.{are_few}
 use Rattle.avs_compact.proofs.SettlingNew.{slot_free}
 use Rattle.avs_compact.proofs.compact.Compact.settle_new.Goals as goal
 
@@ -49,6 +51,7 @@ invariant_of-self g c =
           (ap (λ (l : List ℕ). length l) long ∙ (search rules)),
       c.self.invariant.1,
       c.self.invariant.2,
+      c.self.invariant.3,
     )
 
 pub invariant_of-self-in_err-put_entry : goal.invariant_of-self-in_err-put_entry
@@ -62,9 +65,10 @@ invariant_of-self-in_err-put_entry g c =
     let same : (with_items i.memory c.put_entry.new.memory).items ≡ i.memory.items = items ∙ unset ∙ c.deref_mut-2.ensures.value in
     let size = ((c.copy_in.ensures.copies.goes (seen c.args.master.now)).lasts Shadow).size in (
       kept_again (option_map seen i.shadow) (option_map seen c.copy_in.new.shadow) i.own i.flip c.put_entry.new.flip i.memory.items (with_items i.memory c.put_entry.new.memory).items i.next.items i.buffer.items (with_items i.buffer c.copy_in.new.buffer).items i.blocks k (search rules) size
-          c.put_entry.ensures.place c.put_entry.ensures.goes.lasts.size (ap (λ (l : List ℕ). length l) same) (subst (λ (l : List ℕ). IsClean l (seg_count i.blocks)) (sym same) k.clean) (ap (λ (l : List ℕ). length l) long ∙ (search rules)),
+          c.put_entry.ensures.place c.put_entry.ensures.writes.goes.lasts.size (ap (λ (l : List ℕ). length l) same) (subst (λ (l : List ℕ). IsClean l (seg_count i.blocks)) (sym same) k.clean) (ap (λ (l : List ℕ). length l) long ∙ (search rules)),
       subst (λ (l : List ℕ). Marks (entry_in l) i.own (seg_count i.blocks) i.table.items i.counts) (sym same) c.self.invariant.1,
       subst (λ (l : List ℕ). ArePassed (entry_in l) (seg_count i.blocks) i.table.items i.low i.ahead i.due) (sym same) c.self.invariant.2,
+      subst (λ (l : List ℕ). AreTallied (entry_in l) i.own (seg_count i.blocks) i.tally) (sym same) c.self.invariant.3,
     )
 
 pub returns-in_err-put_entry : goal.returns-in_err-put_entry
@@ -105,9 +109,10 @@ invariant_of-self-2 g c =
     let small : c.in-Some.slot < 2 ^ 30 - 1 = omega (arith, c.in-Some.ensures.small) in
     let marked = subst (λ (l : Owners). MarksSlot l i.counts c.args.chunk c.in-Some.slot c.mark_slot-self-inside.new.table c.mark_slot-self-inside.result) c.deref_mut-3.ensures.value c.mark_slot-self-inside.ensures in
     let table : (with_items i.table c.mark_slot-self-inside.new.table).items ≡ c.mark_slot-self-inside.new.table = with_items_is i.table c.mark_slot-self-inside.new.table (search rules) in
+    let changed = subst (λ (k : ℕ). Changes i.tally i.own 0 k c.changed-self-inside.result) c.entry_for-entry.ensures c.changed-self-inside.ensures in
     let low : c.min-self-inside.result ≡ min i.own (c.in-Some.slot + 1) = c.min-self-inside.ensures in (
       kept_again (option_map seen i.shadow) (option_map seen c.copy_in.new.shadow) i.own i.flip c.put_entry.new.flip i.memory.items (with_items i.memory c.put_entry.new.memory).items i.next.items i.buffer.items (with_items i.buffer c.copy_in.new.buffer).items i.blocks k (search rules) size
-          c.put_entry.ensures.place c.put_entry.ensures.goes.lasts.size (ap (λ (l : List ℕ). length l) items ∙ c.put_entry.ensures.len ∙ ap (λ (l : List ℕ). length l) c.deref_mut-2.ensures.value)
+          c.put_entry.ensures.place c.put_entry.ensures.writes.goes.lasts.size (ap (λ (l : List ℕ). length l) items ∙ c.put_entry.ensures.len ∙ ap (λ (l : List ℕ). length l) c.deref_mut-2.ensures.value)
           (subst (λ (l : List ℕ). IsClean l (seg_count i.blocks)) (sym items) (clean_again i.memory.items c.put_entry.new.memory c.args.chunk 2 c.in-Some.slot (seg_count i.blocks) puts there (inl refl) small k.clean)) (ap (λ (l : List ℕ). length l) long ∙ (search rules)),
       subst (λ (l : List ℕ). Marks (entry_in l) i.own (seg_count i.blocks) (with_items i.table c.mark_slot-self-inside.new.table).items c.mark_slot-self-inside.result) (sym items)
           (subst (λ (l : Owners). Marks (entry_in c.put_entry.new.memory) i.own (seg_count i.blocks) l c.mark_slot-self-inside.result) (sym table)
@@ -118,7 +123,14 @@ invariant_of-self-2 g c =
           (subst (λ (n : ℕ). ArePassed (entry_in c.put_entry.new.memory) (seg_count i.blocks) c.mark_slot-self-inside.new.table n i.ahead i.due) (sym low)
           (took_passed i.memory.items c.put_entry.new.memory c.args.chunk 2 c.in-Some.slot (seg_count i.blocks) puts there (inl refl) small i.own i.table.items i.counts i.low i.ahead i.due c.self.invariant.1 c.self.invariant.2 i.set (over_of c.args.over.now) (over_of c.take_slot.new.over) t none
           c.mark_slot-self-inside.new.table c.mark_slot-self-inside.result marked))),
+      subst (λ (l : List ℕ). AreTallied (entry_in l) i.own (seg_count i.blocks) c.changed-self-inside.result) (sym items)
+          (took_tally i.memory.items c.put_entry.new.memory c.args.chunk 2 c.in-Some.slot (seg_count i.blocks) puts there (inl refl) small i.own none i.tally c.changed-self-inside.result c.self.invariant.3 changed),
     )
+
+pub changed-self-inside-requires-clause-few : goal.changed-self-inside-requires-clause-few
+changed-self-inside-requires-clause-few g c =
+    let i = c.self.inside in
+    are_few (entry_in i.memory.items) i.own (seg_count i.blocks) i.tally (omega (arith, c.self.invariant.0.small)) c.self.invariant.3
 
 pub returns : goal.returns
 returns g c =

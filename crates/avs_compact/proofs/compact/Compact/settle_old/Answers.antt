@@ -1,16 +1,19 @@
-use Rattle.std.proofs.Common.{rules, ◌≡◌, ℕ, List, length, Err, sym, ap, subst, ◌∙◌}
+use Rattle.std.proofs.Common.{rules, ◌≡◌, ℕ, List, length, Result, Err, OnOk, OnErr, sym, ap, subst, ◌∙◌, arith}
 use Rattle.std.specs.Option.{option_map}
 use Rattle.std.specs.Vec.{with_items}
 use Rattle.std.proofs.lemmas.List.{with_items_is}
 use Rattle.avs_seg.specs.Segment.{seg_count}
-use Rattle.avs_compact.specs.Entries.{entry_in, slot_by, code_of}
+use Rattle.avs_seg.specs.declared.fault.Failed.{Failed}
+use Rattle.avs_compact.specs.Entries.{entry_in, entry_for, slot_by, code_of}
 use Rattle.avs_compact.specs.CompactSet.{CompactSet, disk_of, over_of}
 use Rattle.avs_compact.specs.Disks.{Shadow}
 use Rattle.avs_compact.specs.Slots.{IsClean, Marks, ArePassed}
-use Rattle.avs_compact.specs.Steps.{WritesEntry}
+use Rattle.avs_compact.specs.Steps.{WritesEntry, PutsEntry}
+use Rattle.avs_compact.specs.Tallied.{AreTallied, Changes}
 use Rattle.avs_compact.proofs.Copied.{back_goes}
-use Rattle.avs_compact.proofs.Again.{kept_again, stands_again}
-use Rattle.avs_compact.proofs.Settles.{old_fails, old_settles}
+use Rattle.avs_compact.proofs.Again.{kept_again, stands_again, had_tally}
+use Rattle.avs_compact.proofs.Tallied.{has_one, are_few}
+use Rattle.avs_compact.proofs.Settles.{old_fails, old_settles, settles_err, settles_ok}
 use Rattle.avs_compact.proofs.compact.Compact.settle_old.Goals as goal
 
 pub returns-in_err-copy_back : goal.returns-in_err-copy_back
@@ -26,6 +29,24 @@ returns-in_err-copy_back g c =
     (option_map seen c.copy_back.new.shadow) (search rules) (seen c.args.master.now) (seen c.copy_back.new.master) c.copy_back.result c.seg_span-span.result.at c.seg_span-span.result.len c.seg_span-span.ensures.at c.seg_span-span.ensures.len c.copy_back.ensures.copies
     c.in_err-copy_back.field-0.0 c.in_err-copy_back.field-0.0 c.in_err-copy_back.was))
 
+pub returns-in_err-put_entry : goal.returns-in_err-put_entry
+returns-in_err-put_entry g c =
+    let i = c.self.inside in
+    let seen = g.D.Disk.seen in
+    let s : CompactSet = record { set = i.set; own = i.own; shadow = option_map seen i.shadow; areas = i.flip; memory = i.memory.items; next = i.next.items; blocks = i.blocks; low = i.low; ahead = i.ahead } in
+    let may = rw (← c.self.view_is) at c.requires.may in
+    let served = rw (← c.self.view_is) at c.requires.slots in
+    let entry : c.entry_in-old.result ≡ entry_in i.memory.items c.args.chunk = c.entry_in-old.ensures ∙ ap (λ (l : List ℕ). entry_in l c.args.chunk) c.deref.ensures.value in
+    let slot : c.slot_by.result ≡ slot_by (entry_in i.memory.items c.args.chunk) = c.slot_by.ensures.is ∙ ap slot_by entry in
+    let long : (with_items i.memory c.put_entry.new.memory).items ≡ c.put_entry.new.memory = with_items_is i.memory c.put_entry.new.memory (search rules) in
+    let puts = subst (λ (k : ℕ). WritesEntry i.flip i.memory.items c.args.chunk k c.put_entry.result c.put_entry.new.flip c.put_entry.new.memory) c.entry_for-entry.ensures
+    (subst (λ (l : List ℕ). WritesEntry i.flip l c.args.chunk c.entry_for-entry.result c.put_entry.result c.put_entry.new.flip c.put_entry.new.memory) c.deref_mut-2.ensures.value c.put_entry.ensures) in
+    let st = old_settles s c.args.chunk (code_of c.args.target) c.entry_in-old.result (over_of c.args.over.now) (over_of c.copy_back.new.over) entry may served c.self.invariant.1.form
+    (option_map seen c.copy_back.new.shadow) (search rules) (seen c.args.master.now) (seen c.copy_back.new.master) c.copy_back.result c.seg_span-span.result.at c.seg_span-span.result.len c.seg_span-span.ensures.at c.seg_span-span.ensures.len c.copy_back.ensures.copies
+    c.slot_by.result slot c.slot_by.ensures.small c.self.invariant.0.clean c.self.invariant.0.first c.put_entry.new.flip c.put_entry.new.memory c.in_ok-copy_back.field-0 c.in_ok-copy_back.was c.put_entry.result puts in
+    let is : c.from_residual-in_err-put_entry.result ≡ Err c.in_err-put_entry.field-0.0 = search rules in
+    rw is (rw (← c.self.view_is) (rw long (settles_err s _ (over_of c.args.over.now) (over_of c.copy_back.new.over) (seen c.args.master.now) (seen c.copy_back.new.master) c.args.chunk (code_of c.args.target) c.put_entry.result c.in_err-put_entry.field-0.0 c.in_err-put_entry.field-0.0 c.in_err-put_entry.was st)))
+
 pub returns : goal.returns
 returns g c =
     let i = c.self.inside in
@@ -38,9 +59,46 @@ returns g c =
     let long : (with_items i.memory c.put_entry.new.memory).items ≡ c.put_entry.new.memory = with_items_is i.memory c.put_entry.new.memory (search rules) in
     let puts = subst (λ (k : ℕ). WritesEntry i.flip i.memory.items c.args.chunk k c.put_entry.result c.put_entry.new.flip c.put_entry.new.memory) c.entry_for-entry.ensures
     (subst (λ (l : List ℕ). WritesEntry i.flip l c.args.chunk c.entry_for-entry.result c.put_entry.result c.put_entry.new.flip c.put_entry.new.memory) c.deref_mut-2.ensures.value c.put_entry.ensures) in
-    rw (← c.self.view_is) (rw long (old_settles s c.args.chunk (code_of c.args.target) c.entry_in-old.result (over_of c.args.over.now) (over_of c.copy_back.new.over) entry may served c.self.invariant.1.form
+    let st = old_settles s c.args.chunk (code_of c.args.target) c.entry_in-old.result (over_of c.args.over.now) (over_of c.copy_back.new.over) entry may served c.self.invariant.1.form
     (option_map seen c.copy_back.new.shadow) (search rules) (seen c.args.master.now) (seen c.copy_back.new.master) c.copy_back.result c.seg_span-span.result.at c.seg_span-span.result.len c.seg_span-span.ensures.at c.seg_span-span.ensures.len c.copy_back.ensures.copies
-    c.slot_by.result slot c.slot_by.ensures.small c.self.invariant.0.clean c.self.invariant.0.first c.put_entry.new.flip c.put_entry.new.memory c.in_ok-copy_back.field-0 c.in_ok-copy_back.was c.put_entry.result puts))
+    c.slot_by.result slot c.slot_by.ensures.small c.self.invariant.0.clean c.self.invariant.0.first c.put_entry.new.flip c.put_entry.new.memory c.in_ok-copy_back.field-0 c.in_ok-copy_back.was c.put_entry.result puts in
+    rw (← c.self.view_is) (rw long (settles_ok s _ (over_of c.args.over.now) (over_of c.copy_back.new.over) (seen c.args.master.now) (seen c.copy_back.new.master) c.args.chunk (code_of c.args.target) c.put_entry.result c.in_ok-put_entry.field-0 tt c.in_ok-put_entry.was st))
+
+pub invariant_of-self-in_err-put_entry : goal.invariant_of-self-in_err-put_entry
+invariant_of-self-in_err-put_entry g c =
+    let i = c.self.inside in
+    let seen = g.D.Disk.seen in
+    let k = c.self.invariant.0 in
+    let may = rw (← c.self.view_is) at c.requires.may in
+    let entry : c.entry_in-old.result ≡ entry_in i.memory.items c.args.chunk = c.entry_in-old.ensures ∙ ap (λ (l : List ℕ). entry_in l c.args.chunk) c.deref.ensures.value in
+    let slot : c.slot_by.result ≡ slot_by (entry_in i.memory.items c.args.chunk) = c.slot_by.ensures.is ∙ ap slot_by entry in
+    let items : (with_items i.memory c.put_entry.new.memory).items ≡ c.put_entry.new.memory = with_items_is i.memory c.put_entry.new.memory (search rules) in
+    let long : (with_items i.buffer c.copy_back.new.buffer).items ≡ c.copy_back.new.buffer = with_items_is i.buffer c.copy_back.new.buffer (search rules) in
+    let puts = subst (λ (e : ℕ). WritesEntry i.flip i.memory.items c.args.chunk e c.put_entry.result c.put_entry.new.flip c.put_entry.new.memory) c.entry_for-entry.ensures
+    (subst (λ (l : List ℕ). WritesEntry i.flip l c.args.chunk c.entry_for-entry.result c.put_entry.result c.put_entry.new.flip c.put_entry.new.memory) c.deref_mut-2.ensures.value c.put_entry.ensures) in
+    let size = ((back_goes c.entry_in-old.result (seen c.args.master.now) (seen c.copy_back.new.master) (disk_of (option_map seen i.shadow)) (disk_of (option_map seen c.copy_back.new.shadow)) (over_of c.args.over.now) (over_of c.copy_back.new.over) i.own
+    c.seg_span-span.result.at c.seg_span-span.result.len c.copy_back.result c.copy_back.ensures.copies (seen c.args.master.now)) Shadow).size in
+    let stands = stands_again i.memory.items c.put_entry.new.memory c.args.chunk (code_of c.args.target) c.slot_by.result (seg_count i.blocks) i.own i.table.items i.counts i.low i.ahead i.due c.put_entry.result puts.set puts.unset
+    may.there may.targets c.slot_by.ensures.small may.slot slot (record { clean = k.clean; marks = c.self.invariant.1; passed = c.self.invariant.2 }) in
+    let unset = subst (λ (r : Result (Unit {0}) Failed). OnErr r (c.put_entry.new.memory ≡ c.deref_mut-2.result.now)) c.in_err-put_entry.was c.put_entry.ensures.unset in (
+      kept_again (option_map seen i.shadow) (option_map seen c.copy_back.new.shadow) i.own i.flip c.put_entry.new.flip i.memory.items (with_items i.memory c.put_entry.new.memory).items i.next.items i.buffer.items (with_items i.buffer c.copy_back.new.buffer).items i.blocks k (search rules) size
+          puts.place puts.writes.goes.lasts.size (ap (λ (l : List ℕ). length l) items ∙ puts.len) (subst (λ (l : List ℕ). IsClean l (seg_count i.blocks)) (sym items) stands.clean) (ap (λ (l : List ℕ). length l) long ∙ (search rules)),
+      subst (λ (l : List ℕ). Marks (entry_in l) i.own (seg_count i.blocks) i.table.items i.counts) (sym items) stands.marks,
+      subst (λ (l : List ℕ). ArePassed (entry_in l) (seg_count i.blocks) i.table.items i.low i.ahead i.due) (sym items) stands.passed,
+      subst (λ (l : List ℕ). AreTallied (entry_in l) i.own (seg_count i.blocks) i.tally) (sym (items ∙ unset ∙ c.deref_mut-2.ensures.value)) c.self.invariant.3,
+    )
+
+pub changed-self-inside-requires-clause-one : goal.changed-self-inside-requires-clause-one
+changed-self-inside-requires-clause-one g c =
+    let i = c.self.inside in
+    let may = rw (← c.self.view_is) at c.requires.may in
+    let entry : c.entry_in-old.result ≡ entry_in i.memory.items c.args.chunk = c.entry_in-old.ensures ∙ ap (λ (l : List ℕ). entry_in l c.args.chunk) c.deref.ensures.value in
+    has_one (entry_in i.memory.items) i.own (seg_count i.blocks) i.tally c.args.chunk c.entry_in-old.result may.there (sym entry) c.self.invariant.3
+
+pub changed-self-inside-requires-clause-few : goal.changed-self-inside-requires-clause-few
+changed-self-inside-requires-clause-few g c =
+    let i = c.self.inside in
+    are_few (entry_in i.memory.items) i.own (seg_count i.blocks) i.tally (omega (arith, c.self.invariant.0.small)) c.self.invariant.3
 
 pub invariant_of-self-2 : goal.invariant_of-self-2
 invariant_of-self-2 g c =
@@ -57,9 +115,13 @@ invariant_of-self-2 g c =
     let size = ((back_goes c.entry_in-old.result (seen c.args.master.now) (seen c.copy_back.new.master) (disk_of (option_map seen i.shadow)) (disk_of (option_map seen c.copy_back.new.shadow)) (over_of c.args.over.now) (over_of c.copy_back.new.over) i.own
     c.seg_span-span.result.at c.seg_span-span.result.len c.copy_back.result c.copy_back.ensures.copies (seen c.args.master.now)) Shadow).size in
     let stands = stands_again i.memory.items c.put_entry.new.memory c.args.chunk (code_of c.args.target) c.slot_by.result (seg_count i.blocks) i.own i.table.items i.counts i.low i.ahead i.due c.put_entry.result puts.set puts.unset
-    may.there may.targets c.slot_by.ensures.small may.slot slot (record { clean = k.clean; marks = c.self.invariant.1; passed = c.self.invariant.2 }) in (
+    may.there may.targets c.slot_by.ensures.small may.slot slot (record { clean = k.clean; marks = c.self.invariant.1; passed = c.self.invariant.2 }) in
+    let set = subst (λ (r : Result (Unit {0}) Failed). OnOk r (PutsEntry i.memory.items c.put_entry.new.memory c.args.chunk (entry_for (code_of c.args.target) c.slot_by.result))) c.in_ok-put_entry.was puts.set in
+    let changed = subst (λ (k : ℕ). Changes i.tally i.own k (entry_for (code_of c.args.target) c.slot_by.result) c.changed-self-inside.result) entry (subst (λ (k : ℕ). Changes i.tally i.own c.entry_in-old.result k c.changed-self-inside.result) c.entry_for-entry.ensures c.changed-self-inside.ensures) in (
       kept_again (option_map seen i.shadow) (option_map seen c.copy_back.new.shadow) i.own i.flip c.put_entry.new.flip i.memory.items (with_items i.memory c.put_entry.new.memory).items i.next.items i.buffer.items (with_items i.buffer c.copy_back.new.buffer).items i.blocks k (search rules) size
-          puts.place puts.goes.lasts.size (ap (λ (l : List ℕ). length l) items ∙ puts.len) (subst (λ (l : List ℕ). IsClean l (seg_count i.blocks)) (sym items) stands.clean) (ap (λ (l : List ℕ). length l) long ∙ (search rules)),
+          puts.place puts.writes.goes.lasts.size (ap (λ (l : List ℕ). length l) items ∙ puts.len) (subst (λ (l : List ℕ). IsClean l (seg_count i.blocks)) (sym items) stands.clean) (ap (λ (l : List ℕ). length l) long ∙ (search rules)),
       subst (λ (l : List ℕ). Marks (entry_in l) i.own (seg_count i.blocks) i.table.items i.counts) (sym items) stands.marks,
       subst (λ (l : List ℕ). ArePassed (entry_in l) (seg_count i.blocks) i.table.items i.low i.ahead i.due) (sym items) stands.passed,
+      subst (λ (l : List ℕ). AreTallied (entry_in l) i.own (seg_count i.blocks) c.changed-self-inside.result) (sym items)
+          (had_tally i.memory.items c.put_entry.new.memory c.args.chunk (code_of c.args.target) c.slot_by.result (seg_count i.blocks) set may.there may.targets c.slot_by.ensures.small i.own may.slot slot i.tally c.changed-self-inside.result c.self.invariant.3 changed),
     )

@@ -1,4 +1,4 @@
-use Rattle.std.proofs.Common.{rules, ◌≡◌, ◌<◌, ◌+◌, ℕ, Ok, Err, ap, subst, arith}
+use Rattle.std.proofs.Common.{rules, ◌≡◌, ◌≤◌, ◌+◌, ℕ, Ok, Err, ap, subst, arith}
 use Rattle.avs_seg.specs.declared.fault.Failed.{Failed}
 use Rattle.avs_compact.specs.Entries.{area_len}
 use Rattle.avs_compact.specs.CompactSet.{CompactSet, chunks_of, entry_of}
@@ -20,7 +20,7 @@ loop-at-preserved g c =
     let so = c.loop-at.invariant.so_far in
     let place : c.loop-at.at ≡ 0 + c.loop-at.at = omega arith in
     record {
-      so_far = blocks_more c.args.self.now c.loop-at.self c.stage_one.new.self (λ k. updated c.args.update (entry_of c.args.self.now k)) (λ k. updated c.args.update (entry_of c.loop-at.self k)) 0 c.loop-at.at
+      so_far = blocks_more c.args.self.now c.loop-at.self c.stage_one.new.self (λ k. updated c.args.update (entry_of c.args.self.now k)) (λ k. updated c.args.update (entry_of c.loop-at.self k)) 0 c.loop-at.at 1
           (λ k low high. ap (λ (s : CompactSet). updated c.args.update (entry_of s k)) so.is) so c.stage_one.result c.in_ok-stage_one.was (subst (λ (k : ℕ). StagesBlocks c.loop-at.self (λ j. updated c.args.update (entry_of c.loop-at.self j)) k 1 c.stage_one.result c.stage_one.new.self) place c.stage_one.ensures);
     }
 
@@ -30,8 +30,8 @@ returns-in_err-stage_one g c =
     let place : c.loop-at.at ≡ 0 + c.loop-at.at = omega arith in
     let is : c.from_residual.result ≡ Err c.in_err-stage_one.field-0.0 = search rules in
     let blocks = ap (λ (s : CompactSet). s.blocks) c.self.view_is in
-    let lt : c.loop-at.at < area_len (chunks_of c.args.self.now) = omega (arith, blocks, c.loop-at-test.true, c.area_len-at-end.ensures.is) in
-    rw is (blocks_fail c.args.self.now c.loop-at.self c.stage_one.new.self (λ k. updated c.args.update (entry_of c.args.self.now k)) (λ k. updated c.args.update (entry_of c.loop-at.self k)) 0 c.loop-at.at
+    let lt : c.loop-at.at + 1 ≤ area_len (chunks_of c.args.self.now) = omega (arith, blocks, c.loop-at-test.true, c.area_len-at-end.ensures.is) in
+    rw is (blocks_fail c.args.self.now c.loop-at.self c.stage_one.new.self (λ k. updated c.args.update (entry_of c.args.self.now k)) (λ k. updated c.args.update (entry_of c.loop-at.self k)) 0 c.loop-at.at 1
     (λ k low high. ap (λ (s : CompactSet). updated c.args.update (entry_of s k)) so.is) so (area_len (chunks_of c.args.self.now)) c.in_err-stage_one.field-0.0 c.stage_one.result lt c.in_err-stage_one.was (subst (λ (k : ℕ). StagesBlocks c.loop-at.self (λ j. updated c.args.update (entry_of c.loop-at.self j)) k 1 c.stage_one.result c.stage_one.new.self) place c.stage_one.ensures))
 
 pub returns : goal.returns

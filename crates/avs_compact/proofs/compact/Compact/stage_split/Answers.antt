@@ -1,4 +1,4 @@
-use Rattle.std.proofs.Common.{rules, ◌≡◌, ◌<◌, ◌*◌, ℕ, Ok, Err, ap, subst, arith}
+use Rattle.std.proofs.Common.{rules, ◌≡◌, ◌≤◌, ◌+◌, ◌*◌, ℕ, Ok, Err, ap, subst, arith}
 use Rattle.avs_seg.specs.declared.fault.Failed.{Failed}
 use Rattle.avs_compact.specs.CompactSet.{CompactSet, chunks_of, entry_of, next_of}
 use Rattle.avs_compact.specs.Staging.{StagesBlocks}
@@ -18,15 +18,15 @@ split_block-requires-clause-inside g c =
 pub loop-place-preserved : goal.loop-place-preserved
 loop-place-preserved g c =
     let so = c.loop-place.invariant.so_far in
-    record { so_far = blocks_more c.args.self.now c.loop-place.self c.split_block.new.self _ _ (16 * c.args.part) c.loop-place.place (split_same c.args.self.now c.loop-place.self c.args.split.now c.args.part (16 * c.args.part) c.loop-place.place so) so c.split_block.result c.in_ok-split_block.was c.split_block.ensures }
+    record { so_far = blocks_more c.args.self.now c.loop-place.self c.split_block.new.self _ _ (16 * c.args.part) c.loop-place.place 1 (λ k low high. split_same c.args.self.now c.loop-place.self c.args.split.now c.args.part (16 * c.args.part) c.loop-place.place so k low) so c.split_block.result c.in_ok-split_block.was c.split_block.ensures }
 
 pub returns-in_err-split_block : goal.returns-in_err-split_block
 returns-in_err-split_block g c =
     let so = c.loop-place.invariant.so_far in
     let is : c.from_residual.result ≡ Err c.in_err-split_block.field-0.0 = search rules in
     let blocks = ap (λ (s : CompactSet). s.blocks) c.self.view_is in
-    let lt : c.loop-place.place < part_blocks (chunks_of c.args.self.now) c.args.part = omega (arith, blocks, c.loop-place-test.true, c.area_len-blocks.ensures.is) in
-    rw is (blocks_fail c.args.self.now c.loop-place.self c.split_block.new.self _ _ (16 * c.args.part) c.loop-place.place (split_same c.args.self.now c.loop-place.self c.args.split.now c.args.part (16 * c.args.part) c.loop-place.place so) so
+    let lt : c.loop-place.place + 1 ≤ part_blocks (chunks_of c.args.self.now) c.args.part = omega (arith, blocks, c.loop-place-test.true, c.area_len-blocks.ensures.is) in
+    rw is (blocks_fail c.args.self.now c.loop-place.self c.split_block.new.self _ _ (16 * c.args.part) c.loop-place.place 1 (λ k low high. split_same c.args.self.now c.loop-place.self c.args.split.now c.args.part (16 * c.args.part) c.loop-place.place so k low) so
     (part_blocks (chunks_of c.args.self.now) c.args.part) c.in_err-split_block.field-0.0 c.split_block.result lt c.in_err-split_block.was c.split_block.ensures)
 
 pub returns : goal.returns

@@ -19,11 +19,11 @@ returns g c =
     let was : c.deref_mut-2.result.now ≡ i.next.items = search rules in
     let other : c.swap.new.y.items ≡ i.memory.items = search rules in
     let own : length c.deref_mut.result.now ≡ i.own = search rules in
-    let count : c.seg_count.result ≡ seg_count i.blocks = c.seg_count.ensures in
+    let count : c.seg_count-end.result ≡ seg_count i.blocks = c.seg_count-end.ensures in
     let whole = subst (λ (n : ℕ). AreEntries (entry_in i.next.items) n (seg_count i.blocks) → bytes ≡ i.next.items) own
     (subst (λ (n : ℕ). AreEntries (entry_in i.next.items) (length c.deref_mut.result.now) n → bytes ≡ i.next.items) count
-    (subst (λ (l : List ℕ). AreEntries (entry_in l) (length c.deref_mut.result.now) c.seg_count.result → bytes ≡ l) was c.mark_anew-self-inside.ensures.whole)) in
+    (subst (λ (l : List ℕ). AreEntries (entry_in l) (length c.deref_mut.result.now) c.seg_count-end.result → bytes ≡ l) was c.mark_anew-self-inside.ensures.whole)) in
     let broken = subst (λ (n : ℕ). HasBadEntry (entry_in i.next.items) n (seg_count i.blocks) → (k : ℕ) → entry_in bytes k ≡ 0) own
     (subst (λ (n : ℕ). HasBadEntry (entry_in i.next.items) (length c.deref_mut.result.now) n → (k : ℕ) → entry_in bytes k ≡ 0) count
-    (subst (λ (l : List ℕ). HasBadEntry (entry_in l) (length c.deref_mut.result.now) c.seg_count.result → (k : ℕ) → entry_in bytes k ≡ 0) was c.mark_anew-self-inside.ensures.broken)) in
+    (subst (λ (l : List ℕ). HasBadEntry (entry_in l) (length c.deref_mut.result.now) c.seg_count-end.result → (k : ℕ) → entry_in bytes k ≡ 0) was c.mark_anew-self-inside.ensures.broken)) in
     rw (← c.self.view_is) (rw items (subst (λ (l : List ℕ). TurnsSet s (record s { areas = c.turn.new.self; memory = bytes; next = l; low = 0; ahead = 0 })) (sym other) (turns s c.turn.new.self bytes c.turn.ensures.place c.turn.ensures.now_live c.turn.ensures.now_staged whole broken)))

@@ -16,8 +16,8 @@ returns-in_err-save_before g c =
     let is : c.from_residual.result ≡ Err c.in_err-save_before.field-0.0 = search rules in
     rw is (writes_unsaved c.args.self.now c.save_before.new.self o o1 m m1 c.args.at c.args.bytes.now c.in_err-save_before.field-0.0 c.save_before.result c.in_err-save_before.was saved)
 
-pub put_all-requires-clause-split : goal.put_all-requires-clause-split
-put_all-requires-clause-split g c =
+pub put_shadow-requires-clause-split : goal.put_shadow-requires-clause-split
+put_shadow-requires-clause-split g c =
     let seen = g.D.Disk.seen in
     let o = over_of c.args.over.now in
     let o1 = over_of c.save_before.new.over in
@@ -26,8 +26,8 @@ put_all-requires-clause-split g c =
     let saved = subst (λ (n : ℕ). SavesRange c.args.self.now o m (c.args.at / 64) (n - c.args.at / 64) c.save_before.result c.save_before.new.self o1 m1) c.seg_count.ensures c.save_before.ensures in
     split_b c.args.self.now c.save_before.new.self o o1 m m1 c.args.at c.args.bytes.now c.in_ok-save_before.field-0 c.save_before.result c.in_ok-save_before.was saved (omega (arith, c.requires.some, c.requires.whole)) c.requires.inside
 
-pub put_all-requires-clause-slots : goal.put_all-requires-clause-slots
-put_all-requires-clause-slots g c =
+pub put_shadow-requires-clause-slots : goal.put_shadow-requires-clause-slots
+put_shadow-requires-clause-slots g c =
     let seen = g.D.Disk.seen in
     let o = over_of c.args.over.now in
     let o1 = over_of c.save_before.new.over in
@@ -36,8 +36,8 @@ put_all-requires-clause-slots g c =
     let saved = subst (λ (n : ℕ). SavesRange c.args.self.now o m (c.args.at / 64) (n - c.args.at / 64) c.save_before.result c.save_before.new.self o1 m1) c.seg_count.ensures c.save_before.ensures in
     there_b c.args.self.now c.save_before.new.self o o1 m m1 c.args.at c.args.bytes.now c.in_ok-save_before.field-0 c.save_before.result c.in_ok-save_before.was saved c.requires.slots
 
-pub put_all-requires-clause-there : goal.put_all-requires-clause-there
-put_all-requires-clause-there g c =
+pub put_shadow-requires-clause-there : goal.put_shadow-requires-clause-there
+put_shadow-requires-clause-there g c =
     let seen = g.D.Disk.seen in
     let o = over_of c.args.over.now in
     let o1 = over_of c.save_before.new.over in
@@ -46,8 +46,8 @@ put_all-requires-clause-there g c =
     let saved = subst (λ (n : ℕ). SavesRange c.args.self.now o m (c.args.at / 64) (n - c.args.at / 64) c.save_before.result c.save_before.new.self o1 m1) c.seg_count.ensures c.save_before.ensures in
     subst (λ (b : Bool). IsTrue b) (sym (still_b c.args.self.now c.save_before.new.self o o1 m m1 c.args.at c.args.bytes.now c.in_ok-save_before.field-0 c.save_before.result c.in_ok-save_before.was saved)) c.requires.there
 
-pub put_all-requires-clause-inside : goal.put_all-requires-clause-inside
-put_all-requires-clause-inside g c =
+pub put_shadow-requires-clause-inside : goal.put_shadow-requires-clause-inside
+put_shadow-requires-clause-inside g c =
     let seen = g.D.Disk.seen in
     let o = over_of c.args.over.now in
     let o1 = over_of c.save_before.new.over in
@@ -57,17 +57,17 @@ put_all-requires-clause-inside g c =
     let blocks = blocks_b c.args.self.now c.save_before.new.self o o1 m m1 c.args.at c.args.bytes.now c.in_ok-save_before.field-0 c.save_before.result c.in_ok-save_before.was saved in
     omega (arith, blocks, c.requires.inside)
 
-pub returns-in_err-put_all : goal.returns-in_err-put_all
-returns-in_err-put_all g c =
+pub returns-in_err-put_shadow : goal.returns-in_err-put_shadow
+returns-in_err-put_shadow g c =
     let seen = g.D.Disk.seen in
     let o = over_of c.args.over.now in
     let o1 = over_of c.save_before.new.over in
     let m = seen c.args.master.now in
     let m1 = seen c.save_before.new.master in
     let saved = subst (λ (n : ℕ). SavesRange c.args.self.now o m (c.args.at / 64) (n - c.args.at / 64) c.save_before.result c.save_before.new.self o1 m1) c.seg_count.ensures c.save_before.ensures in
-    let is : c.from_residual-in_err-put_all.result ≡ Err Failed = search rules in
-    rw is (writes_torn c.args.self.now c.save_before.new.self o o1 m m1 c.args.at c.args.bytes.now c.in_ok-save_before.field-0 c.save_before.result c.in_ok-save_before.was saved c.put_all.new.self (over_of c.put_all.new.over)
-    c.in_err-put_all.field-0.0 c.put_all.result c.in_err-put_all.was c.put_all.ensures)
+    let is : c.from_residual-in_err-put_shadow.result ≡ Err Failed = search rules in
+    rw is (writes_torn c.args.self.now c.save_before.new.self o o1 m m1 c.args.at c.args.bytes.now c.in_ok-save_before.field-0 c.save_before.result c.in_ok-save_before.was saved c.put_shadow.new.self (over_of c.put_shadow.new.over)
+    c.in_err-put_shadow.field-0.0 c.put_shadow.result c.in_err-put_shadow.was c.put_shadow.ensures)
 
 pub returns : goal.returns
 returns g c =
@@ -77,5 +77,5 @@ returns g c =
     let m = seen c.args.master.now in
     let m1 = seen c.save_before.new.master in
     let saved = subst (λ (n : ℕ). SavesRange c.args.self.now o m (c.args.at / 64) (n - c.args.at / 64) c.save_before.result c.save_before.new.self o1 m1) c.seg_count.ensures c.save_before.ensures in
-    writes_put c.args.self.now c.save_before.new.self o o1 m m1 c.args.at c.args.bytes.now c.in_ok-save_before.field-0 c.save_before.result c.in_ok-save_before.was saved c.put_all.new.self (over_of c.put_all.new.over)
-    c.in_ok-put_all.field-0 c.put_all.result c.in_ok-put_all.was c.put_all.ensures
+    writes_put c.args.self.now c.save_before.new.self o o1 m m1 c.args.at c.args.bytes.now c.in_ok-save_before.field-0 c.save_before.result c.in_ok-save_before.was saved c.put_shadow.new.self (over_of c.put_shadow.new.over)
+    c.in_ok-put_shadow.field-0 c.put_shadow.result c.in_ok-put_shadow.was c.put_shadow.ensures

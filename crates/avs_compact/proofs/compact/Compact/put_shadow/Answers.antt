@@ -6,7 +6,7 @@ use Rattle.avs_seg.proofs.Ranges.{range_all}
 use Rattle.avs_compact.specs.CompactSet.{over_of}
 use Rattle.avs_compact.specs.Writing.{AreSplit, PutsShadow}
 use Rattle.avs_compact.proofs.Written.{puts_none, puts_more, puts_fail, part_split, there_then}
-use Rattle.avs_compact.proofs.compact.Compact.put_all.Goals as goal
+use Rattle.avs_compact.proofs.compact.Compact.put_shadow.Goals as goal
 
 pub loop-done-init : goal.loop-done-init
 loop-done-init g c = record { within = omega arith; puts = puts_none c.args.self.now (over_of c.args.over.now) c.args.at (blocks_of c.args.bytes.now) }

@@ -2,7 +2,7 @@ use Rattle.std.proofs.Common.{◌≡◌, ℕ, cond, ◌∙◌, ap, arith}
 use Rattle.avs_compact.specs.Entries.{entry_in, code_of}
 use Rattle.avs_compact.specs.Counting.{is_in}
 use Rattle.avs_compact.proofs.Counts.{count_more, one_most}
-use Rattle.avs_compact.proofs.counting.count_in.Goals as goal
+use Rattle.avs_compact.proofs.tally.count_in.Goals as goal
 
 pub loop-chunk-preserved : goal.loop-chunk-preserved
 loop-chunk-preserved c =

@@ -3,7 +3,7 @@ use Rattle.avs_seg.specs.declared.fault.Failed.{Failed}
 use Rattle.avs_seg.specs.Image.{blocks_of, range}
 use Rattle.avs_compact.specs.CompactSet.{over_of}
 use Rattle.avs_compact.specs.Writing.{PutsShadow}
-use Rattle.avs_compact.proofs.compact.Compact.put_all.Given as goal
+use Rattle.avs_compact.proofs.compact.Compact.put_shadow.Given as goal
 
 abbrev pub decreases-loop-done : goal.decreases-loop-done
 decreases-loop-done g l = l.count - l.done

@@ -2,7 +2,7 @@ use Rattle.std.proofs.Common.{◌≡◌, ◌≤◌}
 use Rattle.avs_compact.specs.Entries.{entry_in, code_of}
 use Rattle.avs_compact.specs.CompactSet.{count_of}
 use Rattle.avs_compact.specs.Counting.{is_in}
-use Rattle.avs_compact.proofs.counting.count_in.Given as goal
+use Rattle.avs_compact.proofs.tally.count_in.Given as goal
 
 abbrev pub invariant-loop-chunk : goal.invariant-loop-chunk
 invariant-loop-chunk l = record {
