@@ -1,6 +1,6 @@
 -- A tear is armed on a disk of a set in chunks: its areas stay, and the sizes of its disks.
 use Rattle.std.proofs.Common.{◌≡◌, ℕ, zero, suc, Bool, true, false, not, IsTrue, Option, None, Some, is_some, List, [], ◌∷◌, slice_get, slice_set, ◌∙◌, sym, refl, ap, subst}
-use Rattle.avs_seg.specs.Image.{Image, range}
+use Rattle.avs_seg.specs.Image.{range}
 use Rattle.avs_dev.specs.Seen.{Seen, shown, with_tear}
 use Rattle.avs_dev.specs.declared.disk.Tear.{Tear}
 use Rattle.avs_flip.specs.Areas.{live_from}
@@ -8,7 +8,6 @@ use Rattle.avs_chunks.specs.States.{state_in, state_on}
 use Rattle.avs_chunks.specs.ChunkSet.{ChunkSet, disk_of}
 use Rattle.avs_chunks.specs.Arming as arming
 use Rattle.avs_chunks.specs.Arming.{both_disks, lets_arm, disks_there}
-use Rattle.avs_sets.specs.Sets.{SetSeen}
 use Rattle.avs_held.specs.declared.held.Seat.{Seat}
 use Rattle.avs_held.specs.Held.{own_map, chunk_set, HasRoom}
 use Rattle.avs_held.specs.Arming.{ArmsOne}
@@ -27,11 +26,11 @@ second d [] = d
 second d (x ∷ xs) = first d xs
 
 -- what stays of both disks
-record Stays (o o' : Option Seen) (b b' : Seen) : Type 0 where
+pub record Stays (o o' : Option Seen) (b b' : Seen) : Type 0 where
   pub shows : shown b' ≡ shown b
   pub size : (disk_of o').size ≡ (disk_of o).size
 
-stays : (o o' : Option Seen) (b b' : Seen) (disk : ℕ) (tear : Tear) (d : Seen) → is_some o' ≡ is_some o → slice_get (both_disks o b) disk ≡ Some d
+pub stays : (o o' : Option Seen) (b b' : Seen) (disk : ℕ) (tear : Tear) (d : Seen) → is_some o' ≡ is_some o → slice_get (both_disks o b) disk ≡ Some d
     → both_disks o' b' ≡ slice_set (both_disks o b) disk (with_tear tear d) → Stays o o' b b'
 unfolding first second
 stays None (Some x') b b' disk tear d there at is = absurd (never (sym there))
@@ -52,7 +51,7 @@ stays (Some x) (Some x') b b' (suc zero) tear d there at is = record {
 stays (Some x) (Some x') b b' (suc (suc k)) tear d there at is = absurd (never (ap (λ (o : Option Seen). is_some o) at))
 
 -- a disk that lets a tear be armed is there
-armed_on : (o : Option Seen) → IsTrue (lets_arm o) → (d : Seen) × (o ≡ Some d)
+pub armed_on : (o : Option Seen) → IsTrue (lets_arm o) → (d : Seen) × (o ≡ Some d)
 armed_on None is = absurd (never is)
 armed_on (Some d) is = (d, refl)
 
@@ -89,5 +88,5 @@ module _ (seat : Seat) (s s' : ChunkSet) (disk : ℕ) (tear : Tear) (r : Bool) (
   room_armed room = go r refl
     where
       go : (b : Bool) → r ≡ b → HasRoom s'
-      go true is = room_kept s s' (ap (λ (x : ChunkSet). x.blocks) a.rest) a.still_there (both is).size room
+      go true is = room_kept s s' (ap (λ (x : ChunkSet). x.kind) a.rest) (ap (λ (x : ChunkSet). x.blocks) a.rest) a.still_there (both is).size room
       go false is = subst (λ (x : ChunkSet). HasRoom x) (sym (a.unarmed (ap (λ (b : Bool). not b) is))) room

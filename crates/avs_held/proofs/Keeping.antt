@@ -1,26 +1,26 @@
 -- What a call on a set in chunks keeps is what a step of a set keeps of its group, whatever its overflow volume.
-use Rattle.std.proofs.Common.{◌≡◌, ◌≢◌, ℕ, ◌<◌, ◌≤◌, Bool, IsTrue, is_some, Option, List, length, Result, OnOk, OnErr, ◌∙◌, sym, refl, ap, subst, arith}
-use Rattle.std.proofs.lemmas.Result.{on_ok_weaker, on_err_weaker}
-use Rattle.avs_seg.specs.Image.{Image, block_at}
+use Rattle.std.proofs.Common.{◌≡◌, inl, ℕ, ◌<◌, Result, OnOk, ◌∙◌, sym, refl, ap, subst}
+use Rattle.std.proofs.lemmas.Result.{on_ok_weaker}
+use Rattle.avs_seg.specs.Image.{Image}
 use Rattle.avs_dev.specs.Seen.{Seen, IsTold, shown}
 use Rattle.avs_dev.specs.Devices.{AllGoOn}
 use Rattle.avs_dev.proofs.Going.{shown_told}
-use Rattle.avs_model.specs.ShadowSets.{SetSize}
-use Rattle.avs_chunks.specs.States.{state_on}
 use Rattle.avs_chunks.specs.ChunkSet as chunk
 use Rattle.avs_chunks.specs.ChunkSet.{ChunkSet, disk_of, disk_state, state_of}
-use Rattle.avs_chunks.specs.Disks.{ChunkDisk, Master, Shadow, Bitmap, disk_at}
+use Rattle.avs_chunks.specs.Disks.{Master, Shadow, Bitmap, disk_at}
 use Rattle.avs_chunks.specs.Calls.{KeepsBehind}
 use Rattle.avs_sets.specs.Says.{BlockSays}
-use Rattle.avs_sets.specs.Sets as sets
-use Rattle.avs_sets.specs.Sets.{SetSeen, SetRead, chunks_of, KeepsMaster, KeepsShadow}
+use Rattle.avs_sets.specs.Sets.{SetRead, chunks_of, KeepsMaster, KeepsShadow}
 use Rattle.avs_sets.specs.Meaning.{chunks_by}
 use Rattle.avs_sets.specs.Goes.{IsSameSet}
-use Rattle.avs_sets.specs.Steps.{no_slot, read_over, IsKnown, KeepsRead, KeepsSet, ShowsSame, StatesSame}
-use Rattle.avs_sets.proofs.OwnSlots.{own_keeps, own_placed, own_takes}
+use Rattle.avs_sets.specs.Steps.{read_over, IsKnown, KeepsRead, KeepsSet, ShowsSame, StatesSame}
+use Rattle.avs_sets.proofs.OwnSlots.{all_keeps, own_placed, all_takes}
 use Rattle.avs_held.specs.declared.held.Seat.{Seat}
-use Rattle.avs_held.specs.Held.{area_of, chunk_set}
-use Rattle.avs_held.proofs.Projected.{same_disk, all_spots, live_is, plain_read, states_are, read_is, behind_same}
+use Rattle.avs_held.specs.Held.{chunk_set}
+use Rattle.avs_over.specs.Over.{OverSet}
+use Rattle.avs_held.specs.Rooms.{on_disks, KeepsOwned}
+use Rattle.avs_held.proofs.Told.{own_is, own_not_over}
+use Rattle.avs_held.proofs.Projected.{same_disk, all_spots, plain_read, states_are, read_is, behind_same}
 
 module _ (says : BlockSays) (seat : Seat) (s : ChunkSet) (m over : Seen) where
   -- the disks tell their blocks, and the memory is in step: of the set itself
@@ -105,12 +105,12 @@ module _ (says : BlockSays) (seat : Seat) (s s' : ChunkSet) (m m' over : Seen) {
         (subst (λ (x : SetRead). P (plain_read s) m.image x (shown m')) (sym read_now)
         (subst (λ (x : Image). P (plain_read s) m.image (plain_read s') x) (sym master_now) is)))
 
-    reads : KeepsMaster (plain_read s) m.image (plain_read s') m'.image → KeepsRead says no_slot (chunk_set seat s) m over (chunk_set seat s') m' over
-    reads master = record {
+    reads : (mine : ℕ → Type 0) → KeepsMaster (plain_read s) m.image (plain_read s') m'.image → KeepsRead says mine (chunk_set seat s) m over (chunk_set seat s') m' over
+    reads mine master = record {
       master = on_reads KeepsMaster master;
       behind = behind_same seat s s' shape.blocks (told_shadow says seat s m over kn) told_now (goes.lasts Shadow).size (behind (told_shadow says seat s m over kn));
-      slots = own_keeps (shown over);
-      takes = own_takes says (chunk_set seat s') (λ c. refl) (chunk_set seat s);
+      slots = all_keeps mine (shown over);
+      takes = all_takes says (chunk_set seat s') (λ c. refl) mine (chunk_set seat s);
       placed = λ was. own_placed says (chunk_set seat s') (λ c. refl);
     }
 
@@ -118,22 +118,36 @@ module _ (says : BlockSays) (seat : Seat) (s s' : ChunkSet) (m m' over : Seen) {
     same_states same = record { each = λ c lt. ap (λ (f : ℕ → ℕ). f c) states_now ∙ same c lt ∙ sym (ap (λ (f : ℕ → ℕ). f c) states_was) }
 
   -- the step
-  module _ (known : chunk.IsKnown s → OnOk r (chunk.IsKnown s')) (master : chunk.IsKnown s → IsTold m → KeepsMaster (plain_read s) m.image (plain_read s') m'.image) where
-    pub keeps : KeepsSet says no_slot (chunk_set seat s) m over r (chunk_set seat s') m' over
+  module _ (mine : ℕ → Type 0) (known : chunk.IsKnown s → OnOk r (chunk.IsKnown s')) (master : chunk.IsKnown s → IsTold m → KeepsMaster (plain_read s) m.image (plain_read s') m'.image) where
+    pub keeps : KeepsSet says mine (chunk_set seat s) m over r (chunk_set seat s') m' over
     keeps = record {
       same = same_shape seat s s' shape;
       live_b = shape.live_b;
       disks = all_spots seat s s' m m' over r goes;
       known = λ kn. on_ok_weaker r (λ k. set_known says seat s' m' over ((goes.lasts Master).told kn.master) kn.over_told (sym (area_now kn)) k) (known (known_set says seat s m over kn));
-      read = λ kn. reads kn (master (known_set says seat s m over kn) kn.master);
+      read = λ kn. reads kn mine (master (known_set says seat s m over kn) kn.master);
     }
 
     -- one that changes nothing that is seen
     pub shows_same : (chunk.IsKnown s → IsTold m → KeepsShadow (plain_read s) m.image (plain_read s') m'.image)
         → (chunk.IsKnown s → (c : ℕ) → c < chunk.chunks_of s → disk_state s' c ≡ disk_state s c)
-        → ShowsSame says no_slot (chunk_set seat s) m over r (chunk_set seat s') m' over
+        → ShowsSame says mine (chunk_set seat s) m over r (chunk_set seat s') m' over
     shows_same shadow same = record {
       keeps = keeps;
       shadow = λ kn. on_reads kn KeepsShadow (shadow (known_set says seat s m over kn) kn.master);
       same = λ kn. same_states kn (same (known_set says seat s m over kn));
     }
+
+-- ---- of the overflow volume it keeps all
+
+module _ (seat : Seat) (s s' : ChunkSet) (m m' : Seen) (o : OverSet) where
+  pub owned_kept : KeepsOwned (on_disks (chunk_set seat s) m o) (on_disks (chunk_set seat s') m' o)
+  owned_kept = record {
+    served = λ owned served. record { each = λ c slot lt some at. absurd (own_not_over c slot at) };
+    owned = λ owned. record {
+      apart = λ c d lt lt' ne some some' same. ne (sym (own_is d c same));
+      taken = λ c slot lt some at. absurd (own_not_over c slot at);
+    };
+    takes = record { each = λ slot. inl refl };
+    label = λ owned told. refl;
+  }

@@ -1,4 +1,13 @@
+pub mod Told
 pub mod Projected
+pub mod Slotted
+pub mod SlotSteps
+pub mod SlotCalls
+pub mod SlotBlocks
+pub mod SlotStagings
+pub mod SlotAhead
+pub mod SlotCounted
+pub mod SlotArmed
 pub mod Keeping
 pub mod Room
 pub mod Settled
@@ -7,4 +16,5 @@ pub mod Putting
 pub mod Stagings
 pub mod Counted
 pub mod Armed
+pub mod Answered
 pub mod Grouped

@@ -1,15 +1,15 @@
 -- A set in chunks as its group sees it: its disks, and what is read of it.
-use Rattle.std.proofs.Common.{◌≡◌, ◌⊎◌, inl, inr, ℕ, ◌+◌, ◌/◌, ◌<◌, ◌≤◌, Bool, true, false, not, cond, Option, None, Some, List, [], length, drop, ◌-◌, Result, Ok, Err, ◌∙◌, sym, refl, ap, subst, arith}
+use Rattle.std.proofs.Common.{◌≡◌, ◌⊎◌, inl, inr, ℕ, ◌+◌, ◌/◌, ◌≤◌, Bool, true, false, not, cond, Option, None, Some, [], length, drop, ◌-◌, Result, Ok, Err, ◌∙◌, sym, refl, ap, arith}
 use Rattle.std.proofs.Math.Path.{fun_ext}
 use Rattle.std.proofs.lemmas.List.{get_or-drop, length-drop}
 use Rattle.avs_seg.specs.Image.{Image, block_at, range}
 use Rattle.avs_seg.proofs.Blocks.{same_images}
-use Rattle.avs_dev.specs.Seen.{Seen, IsTold, shown, GoesOn}
+use Rattle.avs_dev.specs.Seen.{Seen, IsTold, shown}
 use Rattle.avs_dev.specs.Devices.{AllGoOn, Adds, raised}
 use Rattle.avs_dev.proofs.Going.{shown_told}
 use Rattle.avs_flip.specs.Areas.{Areas, live, staged, live_from}
 use Rattle.avs_chunks.specs.States.{state_on}
-use Rattle.avs_chunks.specs.ChunkSet.{ChunkSet, disk_of, disk_state, staged_state}
+use Rattle.avs_chunks.specs.ChunkSet.{ChunkSet, disk_of, disk_state}
 use Rattle.avs_chunks.specs.Disks.{ChunkDisk, Master, Shadow, Bitmap, disk_at}
 use Rattle.avs_chunks.specs.Calls.{KeepsBlocks, KeepsBehind}
 use Rattle.avs_sets.specs.Says.{BlockSays}
@@ -18,7 +18,7 @@ use Rattle.avs_sets.specs.Sets.{OwnSlot, SetSeen, shadow_disk, SetRead, block_in
 use Rattle.avs_sets.specs.Meaning.{chunks_by, behind_of}
 use Rattle.avs_sets.specs.Steps.{SetSpot, OfMaster, OfShadow, OfBitmap, OfOver, set_disks, read_over}
 use Rattle.avs_sets.proofs.OwnSlots.{own_block}
-use Rattle.avs_sets.proofs.Spots.{AreAmong, all_among}
+use Rattle.avs_sets.proofs.Spots.{all_among}
 use Rattle.avs_held.specs.declared.held.Seat.{Seat}
 use Rattle.avs_held.specs.Held.{area_of, chunk_set}
 use Rattle.avs_held.specs.Calls.{on_spot}

@@ -1,31 +1,33 @@
 -- Blocks of the shadow of a set in chunks are written whose chunks are split.
-use Rattle.std.proofs.Common.{◌≡◌, ◌≢◌, ◌⊎◌, inl, inr, ℕ, ◌+◌, ◌*◌, ◌/◌, ◌<◌, ◌≤◌, cond, eqb, List, length, Result, OnOk, OnErr, ◌∙◌, sym, refl, ap, subst, arith}
+use Rattle.std.proofs.Common.{◌≡◌, ◌≢◌, ◌⊎◌, inl, inr, ℕ, ◌+◌, ◌*◌, ◌/◌, ◌<◌, ◌≤◌, not, cond, eqb, List, length, Result, OnOk, ◌∙◌, sym, refl, ap, subst, arith}
 use Rattle.std.proofs.lemmas.Bool.{cases_lt, cases_eq}
 use Rattle.std.proofs.lemmas.Result.{on_ok_weaker, on_err_weaker}
-use Rattle.avs_seg.specs.Image.{Block, Image, block_at, blocks_of, put, IsMix, ChangesWithin}
+use Rattle.avs_seg.specs.Image.{Block, Image, block_at, blocks_of, put, IsMix}
 use Rattle.avs_seg.proofs.Exits.{ok_exit}
 use Rattle.avs_seg.proofs.Bytes.{length-blocks_of}
 use Rattle.avs_dev.specs.Seen.{Seen, IsTold, shown}
-use Rattle.avs_dev.specs.Devices.{AllGoOn, raised}
+use Rattle.avs_dev.specs.Devices.{AllGoOn}
 use Rattle.avs_dev.specs.Memory.{counted}
 use Rattle.avs_flip.specs.Areas.{live}
-use Rattle.avs_chunks.specs.States.{state_on}
+use Rattle.avs_chunks.specs.States.{state_in, state_on}
 use Rattle.avs_chunks.specs.ChunkSet as chunk
 use Rattle.avs_chunks.specs.ChunkSet.{ChunkSet, disk_of, disk_state, shadow_by, shadow_image}
 use Rattle.avs_chunks.specs.Disks.{three, disk_at}
 use Rattle.avs_chunks.specs.Calls as calls
 use Rattle.avs_chunks.proofs.Going.{cond_is, cond_not, shadow_goes}
-use Rattle.avs_chunks.proofs.Images.{is_1_not_2, is_2_not_3, shadow-mix, shadow-put}
+use Rattle.avs_chunks.proofs.Images.{shadow-mix, shadow-put}
 use Rattle.avs_sets.specs.Says.{BlockSays}
 use Rattle.avs_sets.specs.Sets as sets
 use Rattle.avs_sets.specs.Sets.{SetSeen, SetRead, shadow_disk, KeepsMaster}
 use Rattle.avs_sets.specs.Meaning.{shadow_over}
-use Rattle.avs_sets.specs.Steps.{no_slot, read_over, IsKnown, PutsShadow}
+use Rattle.avs_sets.specs.Steps.{read_over, IsKnown, PutsShadow}
 use Rattle.avs_held.specs.declared.held.Seat.{Seat}
-use Rattle.avs_held.specs.Held.{chunk_set}
+use Rattle.avs_held.specs.Held.{area_of, own_map, chunk_set}
+use Rattle.avs_held.specs.Rooms.{Mine, on_disks}
+use Rattle.avs_over.specs.Over.{OverSet}
 use Rattle.avs_held.specs.Calls.{IsSplit, WritesShadow}
 use Rattle.avs_held.proofs.Projected.{same_disk, plain_read}
-use Rattle.avs_held.proofs.Keeping.{IsSameHeld, known_set, read_now, master_now, same_states, keeps}
+use Rattle.avs_held.proofs.Keeping.{IsSameHeld, known_set, read_now, master_now, same_states, keeps, owned_kept}
 use Rattle.avs_held.proofs.ShadowReads.{plain_image, image_is}
 
 -- a choice by a state
@@ -104,9 +106,9 @@ module _ (seat : Seat) (s s' : ChunkSet) (at : ℕ) (bytes : List ℕ) {T E : Ty
     image_now : IsKnown says (chunk_set seat s) m over → shadow_over (read_over says (chunk_set seat s') over) (shown m) ≡ shadow_image s' m.image
     image_now kn = (λ p. shadow_over (read_now says seat s s' m m over r held (goes m) behind kn p) (master_now says seat s s' m m over r held (goes m) behind kn p)) ∙ plain_image s' m.image
 
-    step : PutsShadow says no_slot (chunk_set seat s) m over at (blocks_of bytes) r (chunk_set seat s') m over
-    step = record {
-      keeps = keeps says seat s s' m m over r held (goes m) behind known (λ k told. master k m.image);
+    step : (mine : ℕ → Type 0) → PutsShadow says mine (chunk_set seat s) m over at (blocks_of bytes) r (chunk_set seat s') m over
+    step mine = record {
+      keeps = keeps says seat s s' m m over r held (goes m) behind mine known (λ k told. master k m.image);
       same = λ kn. same_states says seat s s' m m over r held (goes m) behind kn (λ c lt. state_same c);
       done = λ kn. on_ok_weaker r (λ is. image_now kn ∙ put_now (known_set says seat s m over kn) m.image is ∙ sym (ap (λ (x : Image). put x at (blocks_of bytes)) (image_is says seat s m over kn)))
           (a.writes.done (known_set says seat s m over kn).shadow);
@@ -118,12 +120,21 @@ module _ (seat : Seat) (s s' : ChunkSet) (at : ℕ) (bytes : List ℕ) {T E : Ty
   some_blocks : length bytes / 512 ≢ 0
   some_blocks e = omega (arith, e, whole, some)
 
-  pub writes_set : WritesShadow (chunk_set seat s) at bytes r (chunk_set seat s')
-  writes_set = record {
-    step = step;
+  pub writes_set : (m : Seen) (o : OverSet) → WritesShadow (on_disks (chunk_set seat s) m o) at bytes r (on_disks (chunk_set seat s') m o)
+  writes_set m o = record {
+    step = λ owned says. step says m o.disk (Mine (chunk_set seat s) o);
     rest = ap (λ (x : ChunkSet). chunk_set seat x) a.rest;
-    there = a.there;
-    written = on_ok_weaker r (λ is. ap (λ (d : Seen). d.written) (same_disk s'.shadow) ∙ is
+    keeps = record {
+      bitmap = λ told. record {
+        label = ap (λ (x : ChunkSet). block_at (shown x.areas.disk) 0) a.rest;
+        staged = ap (λ (x : ChunkSet). own_map (λ c. state_on (area_of x.areas (not s.areas.live_b)) c)) a.rest;
+      };
+      next = ap (λ (x : ChunkSet). own_map (λ c. state_in x.next c)) a.rest;
+      there = a.there;
+      owned = owned_kept seat s s' m m o;
+      over = λ is. refl;
+    };
+    written = λ is. on_ok_weaker r (λ is. ap (λ (d : Seen). d.written) (same_disk s'.shadow) ∙ is
         ∙ sym (cond_not (length bytes / 512) 0 (sets.disk_of s.shadow).written _ some_blocks ∙ ap (λ (d : Seen). counted d.written (length bytes / 512)) (same_disk s.shadow))) a.writes.counted;
-    unwritten = on_err_weaker r (λ is. ap (λ (d : Seen). d.written) (same_disk s'.shadow) ∙ is ∙ sym (ap (λ (d : Seen). d.written) (same_disk s.shadow))) a.writes.uncounted;
+    unwritten = λ is. on_err_weaker r (λ is. ap (λ (d : Seen). d.written) (same_disk s'.shadow) ∙ is ∙ sym (ap (λ (d : Seen). d.written) (same_disk s.shadow))) a.writes.uncounted;
   }

@@ -1,10 +1,9 @@
 -- A chunk of a set in chunks is settled.
-use Rattle.std.proofs.Common.{◌≡◌, ◌≢◌, ◌⊎◌, inl, inr, ℕ, ◌<◌, Bool, true, false, not, Option, None, Some, List, Result, OnOk, OnErr, IfOk, ◌∙◌, sym, refl, ap, subst}
+use Rattle.std.proofs.Common.{◌≡◌, ◌≢◌, inl, inr, ℕ, Bool, true, false, not, Option, None, Some, List, Result, ◌∙◌, sym, refl, ap, subst}
 use Rattle.std.proofs.lemmas.Result.{on_ok_weaker, on_err_weaker}
 use Rattle.avs_seg.specs.Image.{Image, block_at}
-use Rattle.avs_dev.specs.Seen.{Seen, IsTold, shown}
+use Rattle.avs_dev.specs.Seen.{Seen, IsTold}
 use Rattle.avs_dev.proofs.Going.{shown_told}
-use Rattle.avs_flip.specs.Areas.{live, staged}
 use Rattle.avs_model.specs.ShadowSets as model
 use Rattle.avs_model.specs.declared.shadow.Kind.{Kind}
 use Rattle.avs_model.specs.declared.shadow.Kind.TheVariants.{Ind, Dep, Compact}
@@ -12,20 +11,23 @@ use Rattle.avs_chunks.specs.States as states
 use Rattle.avs_chunks.specs.States.{state_in, state_on}
 use Rattle.avs_chunks.specs.ChunkSet as chunked
 use Rattle.avs_chunks.specs.ChunkSet.{ChunkSet, disk_of, disk_state}
-use Rattle.avs_chunks.specs.Disks.{Shadow, Bitmap, settle_work}
+use Rattle.avs_chunks.specs.Disks.{Bitmap, settle_work}
 use Rattle.avs_chunks.specs.Calls as calls
 use Rattle.avs_chunks.specs.Copying as copying
 use Rattle.avs_chunks.specs.Due as due
+use Rattle.avs_chunks.specs.Writing as writing
+use Rattle.avs_over.specs.Over.{OverSet}
 use Rattle.avs_seg.specs.Segment.{seg_len}
 use Rattle.avs_sets.specs.Says.{BlockSays}
-use Rattle.avs_sets.specs.Sets.{SetSeen, chunks_of, KeepsShadow}
+use Rattle.avs_sets.specs.Sets.{chunks_of, KeepsShadow}
 use Rattle.avs_sets.specs.Meaning.{chunks_by}
-use Rattle.avs_sets.specs.Steps.{no_slot, IsKnown, SetsOne, Settles}
+use Rattle.avs_sets.specs.Steps.{IsKnown, SetsOne, Settles, Splits, SavesRange}
 use Rattle.avs_held.specs.declared.held.Seat.{Seat}
 use Rattle.avs_held.specs.Held.{area_of, own_map, chunk_set}
-use Rattle.avs_held.specs.Calls.{MaySettle, CanSave, KeepsBitmap, SettlesSet, CopiesDue, CopiesOne}
+use Rattle.avs_held.specs.Rooms.{Mine, on_disks}
+use Rattle.avs_held.specs.Calls.{MaySettle, CanSave, KeepsBitmap, KeepsHeld, SettlesSet, SavesChunks, CopiesDue, CopiesOne}
 use Rattle.avs_held.proofs.Projected.{all_adds, staged_is, plain_master, plain_shadow}
-use Rattle.avs_held.proofs.Keeping.{IsSameHeld, known_set, states_now, states_was, on_reads, same_states, keeps}
+use Rattle.avs_held.proofs.Keeping.{IsSameHeld, known_set, states_now, states_was, on_reads, same_states, keeps, owned_kept}
 
 -- ---- what a call asks
 
@@ -63,8 +65,17 @@ can_chunk seat s (inr settled) = inr (record { kind = independent s.kind settled
 pub bitmap_kept : (seat : Seat) (s s' : ChunkSet) → s'.areas.live_b ≡ s.areas.live_b → IsTold s.areas.disk → IsTold s'.areas.disk → calls.KeepsBitmap s s' → KeepsBitmap (chunk_set seat s) (chunk_set seat s')
 bitmap_kept seat s s' live_b told told' k = record {
   label = ap (λ (img : Image). block_at img 0) (shown_told s'.areas.disk told') ∙ k.label ∙ sym (ap (λ (img : Image). block_at img 0) (shown_told s.areas.disk told));
-  staged = λ c. ap (λ (b : Bool). state_on (area_of s'.areas (not b)) c) (sym live_b)
-      ∙ ap (λ (img : Image). state_on img c) (staged_is s'.areas told' ∙ k.staged ∙ sym (staged_is s.areas told));
+  staged = ap (λ (b : Bool). own_map (λ c. state_on (area_of s'.areas (not b)) c)) (sym live_b)
+      ∙ ap (λ (img : Image). own_map (λ c. state_on img c)) (staged_is s'.areas told' ∙ k.staged ∙ sym (staged_is s.areas told));
+}
+
+pub held_kept : {T E : Type 0} (seat : Seat) (s s' : ChunkSet) (m m' : Seen) (o : OverSet) (r : Result T E) → calls.KeepsSet s m r s' m' → KeepsHeld (on_disks (chunk_set seat s) m o) (on_disks (chunk_set seat s') m' o)
+held_kept seat s s' m m' o r k = record {
+  bitmap = λ told. bitmap_kept seat s s' k.shape.live_b told ((k.goes.lasts Bitmap).told told) (k.bitmap told);
+  next = ap (λ (l : List ℕ). own_map (λ c. state_in l c)) k.shape.next;
+  there = k.shape.there;
+  owned = owned_kept seat s s' m m' o;
+  over = λ is. refl;
 }
 
 -- ---- the step
@@ -82,9 +93,9 @@ module _ (seat : Seat) (s s' : ChunkSet) (m m' : Seen) (chunk target : ℕ) {T E
           ∙ sym (ap (λ (f : ℕ → ℕ). f c) (states_was says seat s s' m m' over r (same_held s s' a.keeps.shape) a.keeps.goes a.keeps.behind kn));
     }
 
-    step : Settles says no_slot (chunk_set seat s) m over chunk target r (chunk_set seat s') m' over
-    step = record {
-      keeps = keeps says seat s s' m m' over r (same_held s s' a.keeps.shape) a.keeps.goes a.keeps.behind a.known (λ k told. plain_master s s' m.image m'.image (a.keeps.blocks k told));
+    step : (mine : ℕ → Type 0) → Settles says mine (chunk_set seat s) m over chunk target r (chunk_set seat s') m' over
+    step mine = record {
+      keeps = keeps says seat s s' m m' over r (same_held s s' a.keeps.shape) a.keeps.goes a.keeps.behind mine a.known (λ k told. plain_master s s' m.image m'.image (a.keeps.blocks k told));
       shadow = λ kn. on_reads says seat s s' m m' over r (same_held s s' a.keeps.shape) a.keeps.goes a.keeps.behind kn KeepsShadow
           (plain_shadow s s' m.image m'.image (a.keeps.blocks (known_set says seat s m over kn) kn.master));
       done = λ kn. on_ok_weaker r (λ one. one_now kn one) (a.done (known_set says seat s m over kn));
@@ -94,14 +105,40 @@ module _ (seat : Seat) (s s' : ChunkSet) (m m' : Seen) (chunk target : ℕ) {T E
       ]) (a.stopped (known_set says seat s m over kn));
     }
 
-  pub settles_set : SettlesSet (chunk_set seat s) m chunk target r (chunk_set seat s') m'
-  settles_set = record {
-    step = step;
-    bitmap = λ told. bitmap_kept seat s s' a.keeps.shape.live_b told ((a.keeps.goes.lasts Bitmap).told told) (a.keeps.bitmap told);
+  pub settles_set : (o : OverSet) → SettlesSet (on_disks (chunk_set seat s) m o) chunk target r (on_disks (chunk_set seat s') m' o)
+  settles_set o = record {
+    step = λ owned says. step says o.disk (Mine (chunk_set seat s) o);
+    keeps = held_kept seat s s' m m' o r a.keeps;
     memory = on_ok_weaker r (λ x. record { now = x.now; others = x.others }) a.memory;
-    next = ap (λ (l : List ℕ). own_map (λ c. state_in l c)) a.keeps.shape.next;
-    there = a.keeps.shape.there;
-    adds = λ over. all_adds seat s s' m m' over r (settle_work (chunked.state_of s chunk) (seg_len chunk s.blocks)) a.adds;
+    adds = λ is. all_adds seat s s' m m' o.disk r (settle_work (chunked.state_of s chunk) (seg_len chunk s.blocks)) a.adds;
+  }
+
+-- ---- chunks that are saved
+
+module _ (seat : Seat) (s s' : ChunkSet) (m m' : Seen) (first end : ℕ) {T E : Type 0} (r : Result T E) (a : writing.SavesRange s m first end r s' m') where
+  module _ (says : BlockSays) (over : Seen) where
+    splits_now : (kn : IsKnown says (chunk_set seat s) m over) → (last : ℕ) → states.Splits (disk_state s) (disk_state s') (chunked.chunks_of s) first last
+        → Splits (chunks_by says (chunk_set seat s)).state (chunks_by says (chunk_set seat s')).state (chunks_of (chunk_set seat s)) first last
+    splits_now kn last x = record {
+      inside = λ c lt low high. ap (λ (f : ℕ → ℕ). f c) (states_now says seat s s' m m' over r (same_held s s' a.keeps.shape) a.keeps.goes a.keeps.behind kn) ∙ x.inside c lt low high;
+      outside = λ c lt out. ap (λ (f : ℕ → ℕ). f c) (states_now says seat s s' m m' over r (same_held s s' a.keeps.shape) a.keeps.goes a.keeps.behind kn) ∙ x.outside c lt out
+          ∙ sym (ap (λ (f : ℕ → ℕ). f c) (states_was says seat s s' m m' over r (same_held s s' a.keeps.shape) a.keeps.goes a.keeps.behind kn));
+    }
+
+    saves : (mine : ℕ → Type 0) → SavesRange says mine (chunk_set seat s) m over first end r (chunk_set seat s') m' over
+    saves mine = record {
+      keeps = keeps says seat s s' m m' over r (same_held s s' a.keeps.shape) a.keeps.goes a.keeps.behind mine a.known (λ k told. plain_master s s' m.image m'.image (a.keeps.blocks k told));
+      shadow = λ kn. on_reads says seat s s' m m' over r (same_held s s' a.keeps.shape) a.keeps.goes a.keeps.behind kn KeepsShadow
+          (plain_shadow s s' m.image m'.image (a.keeps.blocks (known_set says seat s m over kn) kn.master));
+      done = λ kn. on_ok_weaker r (λ x. splits_now kn end x) (a.done (known_set says seat s m over kn));
+      stopped = λ kn. on_err_weaker r (λ x. record { upto = x.upto; low = x.low; high = x.high; splits = splits_now kn x.upto x.splits }) (a.stopped (known_set says seat s m over kn));
+    }
+
+  pub saves_chunks : (o : OverSet) → SavesChunks (on_disks (chunk_set seat s) m o) first end r (on_disks (chunk_set seat s') m' o)
+  saves_chunks o = record {
+    step = λ owned says. saves says o.disk (Mine (chunk_set seat s) o);
+    keeps = held_kept seat s s' m m' o r a.keeps;
+    memory = on_ok_weaker r (λ x. record { inside = x.inside; outside = x.outside }) a.memory;
   }
 
 -- ---- a copy step
@@ -111,13 +148,15 @@ same_independent Ind = refl
 same_independent Dep = refl
 same_independent Compact = refl
 
-copies_due : {E : Type 0} (seat : Seat) (s s' : ChunkSet) (m m' : Seen) (due : Option ℕ) (r : Result (Option ℕ) E) → copying.CopiesDue s m due r s' m' → CopiesDue (chunk_set seat s) m due r (chunk_set seat s') m'
-copies_due seat s s' m m' None r (nothing, is) = (record { ok = nothing.ok; set = ap (λ (x : ChunkSet). chunk_set seat x) nothing.set; master = nothing.master }, is)
-copies_due seat s s' m m' (Some chunk) r (st, is) = (settles_set seat s s' m m' chunk 1 r st, is)
+copies_due : {E : Type 0} (seat : Seat) (s s' : ChunkSet) (m m' : Seen) (o : OverSet) (due : Option ℕ) (r : Result (Option ℕ) E) → copying.CopiesDue s m due r s' m'
+    → CopiesDue (on_disks (chunk_set seat s) m o) due r (on_disks (chunk_set seat s') m' o)
+copies_due seat s s' m m' o None r (nothing, is) = (record { ok = nothing.ok; same = λ p. on_disks (chunk_set seat (nothing.set p)) (nothing.master p) o }, is)
+copies_due seat s s' m m' o (Some chunk) r (st, is) = (settles_set seat s s' m m' chunk 1 r st o, is)
 
-pub copies_one : {E : Type 0} (seat : Seat) (s s' : ChunkSet) (m m' : Seen) (r : Result (Option ℕ) E) → copying.CopiesOne s m r s' m' → CopiesOne (chunk_set seat s) m r (chunk_set seat s') m'
-copies_one seat s s' m m' r a = record {
+pub copies_one : {E : Type 0} (seat : Seat) (s s' : ChunkSet) (m m' : Seen) (o : OverSet) (r : Result (Option ℕ) E) → copying.CopiesOne s m r s' m'
+    → CopiesOne (on_disks (chunk_set seat s) m o) r (on_disks (chunk_set seat s') m' o)
+copies_one seat s s' m m' o r a = record {
   due = a.due;
   finds = subst (λ (b : Bool). copying.FindsDue (chunked.state_of s) b (chunked.chunks_of s) a.due) (same_independent s.kind) a.finds;
-  copies = copies_due seat s s' m m' a.due r a.copies;
+  copies = copies_due seat s s' m m' o a.due r a.copies;
 }

@@ -1,17 +1,23 @@
--- What each call on the contents makes of a set and its master. Of a set that is not compact it is a step whatever its overflow volume,
--- which it leaves as it is.
-use Rattle.std.specs.Prelude.{◌≡◌, ◌≢◌, ◌⊎◌, ℕ, ◌+◌, ◌*◌, ◌/◌, ◌<◌, ◌≤◌, ◌==◌, ◌&&◌, Bool, not, true, IsTrue, is_some, List, length, Option, None, Some, Result, OnOk, OnErr, IfOk, IsOk}
-use Rattle.avs_seg.specs.Image.{Image, block_at, blocks_of, range}
+-- What each call on the contents makes of a set, its master and its overflow volume. A set that is not compact leaves the overflow volume
+-- as it is.
+use Rattle.std.specs.Prelude.{◌≡◌, ◌≢◌, ◌⊎◌, ℕ, ◌+◌, ◌/◌, ◌<◌, ◌≤◌, not, true, false, IsTrue, is_some, List, length, Option, None, Some, Result, OnOk, OnErr, IfOk, IfErr, IsOk}
+use Rattle.avs_seg.specs.Image.{block_at, blocks_of, range}
 use Rattle.avs_seg.specs.Segment.{seg_count, seg_len}
 use Rattle.avs_dev.specs.Seen.{Seen, IsTold, shown}
 use Rattle.avs_dev.specs.Devices.{Adds, raised}
-use Rattle.avs_model.specs.ShadowSets.{is_independent}
+use Rattle.avs_model.specs.ShadowSets.{is_independent, is_compact}
 use Rattle.avs_chunks.specs.Copying.{FindsDue}
-use Rattle.avs_chunks.specs.Disks.{ChunkDisk, Master, Shadow, Bitmap, settle_work, copy_work}
+use Rattle.avs_chunks.specs.Disks.{ChunkDisk, Master, Shadow, Bitmap, settle_work}
+use Rattle.avs_compact.specs.declared.fault.CompactFault.{CompactFault}
+use Rattle.avs_compact.specs.declared.fault.CompactFault.TheVariants as fault
 use Rattle.avs_sets.specs.Says.{BlockSays}
 use Rattle.avs_sets.specs.Sets.{on_master, on_both, split, on_shadow, SetSeen, ChunkMap, chunks_of, shadow_disk}
 use Rattle.avs_sets.specs.Meaning.{shadow_over}
-use Rattle.avs_sets.specs.Steps.{SetSpot, OfMaster, OfShadow, OfBitmap, OfOver, set_disks, no_slot, read_over, IsKnown, KeepsSet, ShowsSame, Settles, PutsShadow}
+use Rattle.avs_sets.specs.Steps.{SetSpot, OfMaster, OfShadow, OfBitmap, OfOver, set_disks, read_over, IsKnown, ShowsSame, Settles, Splits, SavesRange, PutsShadow}
+use Rattle.avs_compact.specs.CompactSet.{CompactSet, need_of, room_of}
+use Rattle.avs_held.specs.declared.held.Seat.{Seat}
+use Rattle.avs_held.specs.Held.{compact_set}
+use Rattle.avs_held.specs.Rooms.{Mine, OnDisks, IsOwned, KeepsOwned, lacking}
 
 -- ---- what a call asks of a set
 
@@ -39,17 +45,32 @@ pub record IsSplit (s : SetSeen) (at len : ℕ) : Type 0 where
 
 -- ---- what a call makes of it
 
--- the blocks that a call writes on each disk: none on an overflow volume
+-- the disks of a set
+abbrev pub spots_of : OnDisks → SetSpot → Seen
+spots_of s = set_disks s.master s.set s.over.disk
+
+-- the blocks that a call writes on each disk of a set that is not compact: none on an overflow volume
 abbrev pub on_spot : (ChunkDisk → ℕ) → SetSpot → ℕ
 on_spot work OfMaster = work Master
 on_spot work OfShadow = work Shadow
 on_spot work OfBitmap = work Bitmap
 on_spot work OfOver = 0
 
+abbrev pub AddsTo : {T E : Type 0} → OnDisks → (ChunkDisk → ℕ) → Result T E → OnDisks → Type 0
+AddsTo old work result new = is_compact old.set.kind ≡ false → Adds (spots_of old) (on_spot work) result (spots_of new)
+
 -- Of the bitmap's disk no call on the contents changes the label, or what is staged.
 pub record KeepsBitmap (old new : SetSeen) : Type 0 where
   pub label : block_at (shown new.bitmap) 0 ≡ block_at (shown old.bitmap) 0
-  pub staged : (c : ℕ) → (new.area (not old.live_b)).state c ≡ (old.area (not old.live_b)).state c
+  pub staged : new.area (not old.live_b) ≡ old.area (not old.live_b)
+
+-- what each call on the contents keeps of a set beside
+pub record KeepsHeld (old new : OnDisks) : Type 0 where
+  pub bitmap : IsTold old.set.bitmap → KeepsBitmap old.set new.set
+  pub next : new.set.next ≡ old.set.next
+  pub there : is_some new.set.shadow ≡ is_some old.set.shadow
+  pub owned : KeepsOwned old new
+  pub over : is_compact old.set.kind ≡ false → new.over ≡ old.over
 
 -- a state in memory is now another
 pub record Remembers (old new : ChunkMap) (chunk state : ℕ) : Type 0 where
@@ -57,45 +78,66 @@ pub record Remembers (old new : ChunkMap) (chunk state : ℕ) : Type 0 where
   pub others : (c : ℕ) → c ≢ chunk → new.state c ≡ old.state c
 
 -- a chunk is settled, and at Ok the memory has its state
-pub record SettlesSet {T E : Type 0} (old : SetSeen) (m : Seen) (chunk target : ℕ) (result : Result T E) (new : SetSeen) (m_new : Seen) : Type 0 where
-  pub step : (says : BlockSays) (over : Seen) → Settles says no_slot old m over chunk target result new m_new over
-  pub bitmap : IsTold old.bitmap → KeepsBitmap old new
-  pub memory : OnOk result (Remembers old.memory new.memory chunk target)
-  pub next : new.next ≡ old.next
-  pub there : is_some new.shadow ≡ is_some old.shadow
-  pub adds : (over : Seen) → Adds (set_disks m old over) (on_spot (settle_work (old.memory.state chunk) (seg_len chunk old.size.blocks))) result (set_disks m_new new over)
+pub record SettlesSet {T E : Type 0} (old : OnDisks) (chunk target : ℕ) (result : Result T E) (new : OnDisks) : Type 0 where
+  pub step : IsOwned old → (says : BlockSays) → Settles says (Mine old.set new.over) old.set old.master old.over.disk chunk target result new.set new.master new.over.disk
+  pub keeps : KeepsHeld old new
+  pub memory : OnOk result (Remembers old.set.memory new.set.memory chunk target)
+  pub adds : AddsTo old (settle_work (old.set.memory.state chunk) (seg_len chunk old.set.size.blocks)) result new
 
 -- a call that does nothing
-pub record DoesNothing {T E : Type 0} (old : SetSeen) (m : Seen) (result : Result T E) (new : SetSeen) (m_new : Seen) : Type 0 where
+pub record DoesNothing {T E : Type 0} (old : OnDisks) (result : Result T E) (new : OnDisks) : Type 0 where
   pub ok : IsOk result
-  pub set : new ≡ old
-  pub master : m_new ≡ m
+  pub same : new ≡ old
 
 -- The least chunk that is to be copied is settled as the same on both, and without one nothing is done.
-abbrev pub CopiesDue : {E : Type 0} → SetSeen → Seen → Option ℕ → Result (Option ℕ) E → SetSeen → Seen → Type 0
-CopiesDue old m None result new m_new = DoesNothing old m result new m_new × IfOk result (λ copied. copied ≡ None)
-CopiesDue old m (Some chunk) result new m_new = SettlesSet old m chunk on_both result new m_new × IfOk result (λ copied. copied ≡ Some chunk)
+abbrev pub CopiesDue : {E : Type 0} → OnDisks → Option ℕ → Result (Option ℕ) E → OnDisks → Type 0
+CopiesDue old None result new = DoesNothing old result new × IfOk result (λ copied. copied ≡ None)
+CopiesDue old (Some chunk) result new = SettlesSet old chunk on_both result new × IfOk result (λ copied. copied ≡ Some chunk)
 
-pub record CopiesOne {E : Type 0} (old : SetSeen) (m : Seen) (result : Result (Option ℕ) E) (new : SetSeen) (m_new : Seen) : Type 0 where
+pub record CopiesOne {E : Type 0} (old : OnDisks) (result : Result (Option ℕ) E) (new : OnDisks) : Type 0 where
   pub due : Option ℕ
-  pub finds : FindsDue old.memory.state (is_independent old.kind) (chunks_of old) due
-  pub copies : CopiesDue old m due result new m_new
+  pub finds : FindsDue old.set.memory.state (is_independent old.set.kind) (chunks_of old.set) due
+  pub copies : CopiesDue old due result new
+
+-- ---- chunks that are saved
+
+-- chunks are saved one after another, from `first` up to `end`, and at Ok the memory has them split
+pub record SavesChunks {T E : Type 0} (old : OnDisks) (first end : ℕ) (result : Result T E) (new : OnDisks) : Type 0 where
+  pub step : IsOwned old → (says : BlockSays) → SavesRange says (Mine old.set new.over) old.set old.master old.over.disk first end result new.set new.master new.over.disk
+  pub keeps : KeepsHeld old new
+  pub memory : OnOk result (Splits old.set.memory.state new.set.memory.state (chunks_of old.set) first end)
+
+-- nothing is done, and the answer tells what the set would need and what it has room for
+pub record GoesOffline {T : Type 0} (old : OnDisks) (need slots : ℕ) (result : Result T CompactFault) (new : OnDisks) : Type 0 where
+  pub told : IfErr result (λ e. e ≡ fault.Offline need slots)
+  pub refused : OnOk result ⊥
+  pub same : new ≡ old
+
+-- So many chunks from one on are saved. That is refused exactly where a compact set would need more slots than it has room for.
+pub record SavesSet {T : Type 0} (seat : Seat) (s : CompactSet) (old : OnDisks) (first count : ℕ) (result : Result T CompactFault) (new : OnDisks) : Type 0 where
+  pub refuses : room_of s old.over < need_of s + lacking (compact_set seat s) first count
+      → GoesOffline old (need_of s + lacking (compact_set seat s) first count) (room_of s old.over) result new
+  pub saves : need_of s + lacking (compact_set seat s) first count ≤ room_of s old.over → SavesChunks old first (first + count) result new
+  pub cause : need_of s + lacking (compact_set seat s) first count ≤ room_of s old.over → IfErr result (λ e. e ≡ fault.Failed)
+
+-- ---- the shadow's blocks
 
 -- Blocks of the shadow are read. Where that fails nothing changes but the count of faults of one disk.
-pub record ReadsShadow {T E : Type 0} (old : SetSeen) (m : Seen) (at : ℕ) (out : List ℕ) (result : Result T E) (new : SetSeen) (m_new : Seen) : Type 0 where
-  pub step : (says : BlockSays) (over : Seen) → ShowsSame says no_slot old m over result new m_new over
-  pub same : OnOk result ((new ≡ old) × (m_new ≡ m))
-  pub rest : new ≡ record old { shadow = new.shadow }
-  pub shadow : shadow_disk new ≡ record (shadow_disk old) { faults = (shadow_disk new).faults }
-  pub master : m_new ≡ record m { faults = m_new.faults }
-  pub sure : IsTrue m.steady → IsTrue (shadow_disk old).steady → IsOk result
-  pub shows : (says : BlockSays) (over : Seen) → IsKnown says old m over
-      → OnOk result (blocks_of out ≡ range (shadow_over (read_over says old over) (shown m)) at (length out / 512))
+pub record ReadsShadow {T E : Type 0} (old : OnDisks) (at : ℕ) (out : List ℕ) (result : Result T E) (new : OnDisks) : Type 0 where
+  pub step : IsOwned old → (says : BlockSays) → ShowsSame says (Mine old.set new.over) old.set old.master old.over.disk result new.set new.master new.over.disk
+  pub same : OnOk result (new ≡ old)
+  pub rest : new.set ≡ record old.set { shadow = new.set.shadow }
+  pub shadow : shadow_disk new.set ≡ record (shadow_disk old.set) { faults = (shadow_disk new.set).faults }
+  pub master : new.master ≡ record old.master { faults = new.master.faults }
+  pub over : new.over ≡ record old.over { disk = record old.over.disk { faults = new.over.disk.faults } }
+  pub sure : IsTrue old.master.steady → IsTrue (shadow_disk old.set).steady → IsTrue old.over.disk.steady → IsOk result
+  pub shows : (says : BlockSays) → IsKnown says old.set old.master old.over.disk
+      → OnOk result (blocks_of out ≡ range (shadow_over (read_over says old.set old.over.disk) (shown old.master)) at (length out / 512))
 
--- blocks whose chunks are split are written on the shadow's disk, and nothing else changes
-pub record WritesShadow {T E : Type 0} (old : SetSeen) (at : ℕ) (bytes : List ℕ) (result : Result T E) (new : SetSeen) : Type 0 where
-  pub step : (says : BlockSays) (m over : Seen) → PutsShadow says no_slot old m over at (blocks_of bytes) result new m over
-  pub rest : new ≡ record old { shadow = new.shadow }
-  pub there : is_some new.shadow ≡ is_some old.shadow
-  pub written : OnOk result ((shadow_disk new).written ≡ raised (shadow_disk old).written (length bytes / 512))
-  pub unwritten : OnErr result ((shadow_disk new).written ≡ (shadow_disk old).written)
+-- blocks whose chunks are split are written where these stand, and nothing else changes
+pub record WritesShadow {T E : Type 0} (old : OnDisks) (at : ℕ) (bytes : List ℕ) (result : Result T E) (new : OnDisks) : Type 0 where
+  pub step : IsOwned old → (says : BlockSays) → PutsShadow says (Mine old.set new.over) old.set old.master old.over.disk at (blocks_of bytes) result new.set new.master new.over.disk
+  pub rest : new.set ≡ record old.set { shadow = new.set.shadow }
+  pub keeps : KeepsHeld old new
+  pub written : is_compact old.set.kind ≡ false → OnOk result ((shadow_disk new.set).written ≡ raised (shadow_disk old.set).written (length bytes / 512))
+  pub unwritten : is_compact old.set.kind ≡ false → OnErr result ((shadow_disk new.set).written ≡ (shadow_disk old.set).written)

@@ -6,6 +6,10 @@ mod counting;
 mod held;
 mod reading;
 mod settling;
+mod slot_calls;
+mod slot_counts;
+mod slots;
 mod staging;
 
 pub use held::{HeldSet, Seat};
+pub use slots::HeldCompact;

@@ -1,6 +1,9 @@
 // Reads of the shadow, and writes of the shadow's blocks.
 ghost use Rattle.std.specs.Prelude.{◌≡◌, ◌+◌, ◌*◌, ◌/◌, ◌<◌, ◌≤◌, IsTrue, is_some, length};
+ghost use Rattle.avs_dev.specs.Seen.{Seen};
+ghost use Rattle.avs_over.specs.Over.{OverSet};
 ghost use Rattle.avs_held.specs.Held.{seen_of};
+ghost use Rattle.avs_held.specs.Rooms.{on_disks};
 ghost use Rattle.avs_held.specs.Calls.{IsSplit, ReadsShadow, WritesShadow};
 
 use crate::held::HeldSet;
@@ -15,7 +18,8 @@ impl<D: Disk> HeldSet<D> {
         requires inside { at + length out.old / 512 ≤ (seen_of self.old).size.blocks }
         requires blocks { (D.seen master.old).size ≡ (seen_of self.old).size.blocks }
         requires there { IsTrue (is_some (seen_of self.old).shadow) }
-        ensures { ReadsShadow (seen_of self.old) (D.seen master.old) at out.new result (seen_of self.new) (D.seen master.new) }
+        ensures { (o : OverSet) → ReadsShadow (on_disks (seen_of self.old) (D.seen master.old) o) at out.new result
+            (on_disks (seen_of self.new) (D.seen master.new) o) }
     {
         self.chunks.read(master, at, out)
     }
@@ -27,7 +31,8 @@ impl<D: Disk> HeldSet<D> {
         requires inside { at + length bytes.now / 512 ≤ (seen_of self.old).size.blocks }
         requires there { IsTrue (is_some (seen_of self.old).shadow) }
         requires split { IsSplit (seen_of self.old) at (length bytes.now / 512) }
-        ensures { WritesShadow (seen_of self.old) at bytes.now result (seen_of self.new) }
+        ensures { (m : Seen) (o : OverSet) → WritesShadow (on_disks (seen_of self.old) m o) at bytes.now result
+            (on_disks (seen_of self.new) m o) }
     {
         self.chunks.put_shadow(at, bytes)
     }

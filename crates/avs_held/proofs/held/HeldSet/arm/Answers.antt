@@ -1,4 +1,3 @@
-use Rattle.std.proofs.Common.{rules, ◌≡◌}
 use Rattle.avs_held.proofs.Armed.{arms_set, room_armed}
 use Rattle.avs_held.proofs.held.HeldSet.arm.Goals as goal
 

@@ -1,4 +1,4 @@
-use Rattle.std.proofs.Common.{rules, ◌≡◌, ◌∙◌, sym}
+use Rattle.std.proofs.Common.{◌∙◌, sym}
 use Rattle.avs_held.proofs.Counted.{count_is}
 use Rattle.avs_held.proofs.held.HeldSet.moved.Goals as goal
 

@@ -1,4 +1,3 @@
-use Rattle.std.proofs.Common.{rules, ◌≡◌}
 use Rattle.avs_held.proofs.Room.{room_there}
 use Rattle.avs_held.proofs.Putting.{writes_set}
 use Rattle.avs_held.proofs.held.HeldSet.put_shadow.Goals as goal

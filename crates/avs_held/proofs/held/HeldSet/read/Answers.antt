@@ -1,4 +1,3 @@
-use Rattle.std.proofs.Common.{rules, ◌≡◌}
 use Rattle.avs_held.proofs.ShadowReads.{reads_set}
 use Rattle.avs_held.proofs.held.HeldSet.read.Goals as goal
 

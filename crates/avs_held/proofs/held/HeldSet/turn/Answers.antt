@@ -1,4 +1,3 @@
-use Rattle.std.proofs.Common.{rules, ◌≡◌}
 use Rattle.avs_held.proofs.Stagings.{turns_set}
 use Rattle.avs_held.proofs.held.HeldSet.turn.Goals as goal
 
