@@ -1,0 +1,4 @@
+pub mod FirstBlocks
+pub mod Grouped
+pub mod SlotStates
+pub mod StateDisks

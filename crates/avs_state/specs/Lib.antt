@@ -1,0 +1,3 @@
+pub mod Saying
+pub mod StateDisk
+pub mod Reading
