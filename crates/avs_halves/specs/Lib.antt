@@ -3,3 +3,7 @@ pub mod MirrorView
 pub mod Loading
 pub mod Changing
 pub mod Writing
+pub mod Going
+pub mod Over
+pub mod Found
+pub mod Words

@@ -6,8 +6,10 @@ mod disks;
 mod listing;
 mod loading;
 mod mirrors;
+mod words;
 mod writing;
 
 pub use loading::half_why;
 pub use mirrors::MirrorSets;
+pub use words::{is_receiver, is_session, word_of};
 pub use writing::write_note;

@@ -3,6 +3,7 @@ ghost use Rattle.std.specs.Prelude.{◌≡◌, ◌<◌, IfOk, IfErr, All, map, l
 ghost use Rattle.std.specs.List.{range_with_len};
 ghost use Rattle.avs_halves.specs.SetBits.{part_of, set_at, has_bit};
 ghost use Rattle.avs_halves.specs.Loading.{HasVolume, LoadsSets, SetsRefused};
+ghost use Rattle.avs_halves.specs.Found.{is_filled};
 
 use crate::listing::{list, volumes};
 use crate::loading::{close_all, make_room, open_all};
@@ -111,6 +112,15 @@ impl<D: Disk> MirrorSets<D> {
         ensures { result ≡ (set_at self.now set).slot }
     {
         self.sets[set as usize].slot
+    }
+
+    /// Whether the slot of a set is not one of those without contents.
+    pub fn is_filled(&self, empty: u16, set: u32) -> bool
+        requires set { set < length self.now }
+        requires slot { (set_at self.now set).slot < 16 }
+        ensures { result ≡ is_filled empty (set_at self.now set).slot }
+    {
+        empty >> self.slot(set) & 1 != 1
     }
 
     /// How many segments a set has.

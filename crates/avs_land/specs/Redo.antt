@@ -1,7 +1,7 @@
 -- An entry that has landed is done below once more.
 use Rattle.std.specs.Prelude.{◌≡◌, ◌⊎◌, ℕ, ◌+◌, ◌*◌, ◌<◌, ◌≤◌, Bool, false, List, length, slice_index, Result, IsOk, IsErr}
 use Rattle.avs_seg.specs.Image.{blocks_of}
-use Rattle.avs_dev.specs.Seen.{IsTold, Fails}
+use Rattle.avs_dev.specs.Seen.{IsTold, Lasts, Fails}
 use Rattle.avs_dev.specs.Below.{BelowSeen, WritesBelow, size_of}
 use Rattle.avs_code.specs.declared.land_headers.LandHeader.{LandHeader}
 use Rattle.avs_land.specs.Landed.{landed_blocks}
@@ -38,6 +38,7 @@ pub record IsEntryUnread {T E : Type 0} (old : Redoing) (result : Result T E) (n
   pub answer : IsErr result
   pub below : new.below ≡ old.below
   pub land : new.land ≡ record old.land { disk = record old.land.disk { faults = new.land.disk.faults } }
+  pub lasts : Lasts old.land.disk new.land.disk
   pub fails : Fails old.land.disk new.land.disk
 
 -- they were written to their volume, done or not

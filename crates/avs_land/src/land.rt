@@ -1,5 +1,5 @@
 // The landing volume of a receiving half.
-ghost use Rattle.std.specs.Prelude.{◌≡◌, ◌↔◌, ◌+◌, ◌*◌, ◌<◌, ◌≤◌, ◌^◌, IsTrue, IfOk, IfErr, is_ok, length, take};
+ghost use Rattle.std.specs.Prelude.{◌≡◌, ◌↔◌, ◌+◌, ◌*◌, ◌<◌, ◌≤◌, ◌^◌, IsTrue, IfOk, IfErr, OnOk, is_ok, length, take};
 ghost use Rattle.avs_code.specs.Header.{HeaderKeeps};
 ghost use Rattle.avs_dev.specs.Seen.{IsTold};
 ghost use Rattle.avs_land.specs.Landed.{landing_blocks, header_for, no_header, settled_of, range_of, IsEntry};
@@ -148,9 +148,10 @@ impl<D: Disk> Land<D> {
         Ok(())
     }
 
-    /// The session and the place of the entry that has landed.
+    /// The session and the place of the entry that has landed. The header in memory keeps the rule of each field.
     pub fn settled(&self) -> Option<(u64, u64)>
-        ensures { result ≡ settled_of self.now.header }
+        ensures told { result ≡ settled_of self.now.header }
+        ensures keeps { HeaderKeeps self.now.header }
     {
         if self.header.kind == LandHeader::NOTHING {
             return None;
@@ -196,6 +197,7 @@ impl<D: Disk> Land<D> {
         requires { IsRoom self.old.header vols.now (B.seen below.old) }
         ensures redoes { Redoes (B.IsSound below.old) vols.now (record { land = self.old; below = B.seen below.old }) result
             (record { land = self.new; below = B.seen below.new }) }
+        ensures sound { B.IsSound below.old → OnOk result (B.IsSound below.new) }
         ensures rest { RewritesRest B.wrote vols.now self.old (B.rest below.old) (is_ok result) (B.rest below.new) }
     {
         if self.header.len == 0 {
