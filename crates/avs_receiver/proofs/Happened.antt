@@ -25,35 +25,35 @@ use Rattle.avs_halves.specs.Changing.{ChangesSets, every}
 use Rattle.avs_halves.specs.Writing.{PutsNote}
 use Rattle.avs_land.specs.Landed.{HasLanded, IsLanding, header_for, kind_code}
 use Rattle.avs_land.specs.Landing.{Landing, Lands}
+use Rattle.avs_halves.specs.Over.{IsOver}
+use Rattle.avs_halves.specs.Found.{is_filled}
+use Rattle.avs_halves.proofs.Staying.{told_note, below_noted, below_written, sets_stay}
+use Rattle.avs_halves.proofs.Lying.{below_is}
 use Rattle.avs_receiver.specs.Held.{ReceiverHalf, held}
-use Rattle.avs_receiver.specs.Meaning.{IsReceiverInStep, IsSettled, contents_in, half_by, has_set, images_in, is_filled, is_of, receiver_of, redone, slots_of, state_in, vols_of}
-use Rattle.avs_receiver.specs.Over.{IsOver}
+use Rattle.avs_receiver.specs.Meaning.{IsReceiverInStep, contents_in, half_by, has_set, images_in, is_of, receiver_of, redone, slots_of, state_in, vols_of, IsLandedFor}
 use Rattle.avs_receiver.specs.Slots.{AreFilled}
 use Rattle.avs_receiver.specs.Applying.{CanApply, IsApplied}
-use Rattle.avs_receiver.proofs.Meanings.{below_is, told_note}
-use Rattle.avs_receiver.proofs.Leavings.{stays_noted}
 use Rattle.avs_receiver.proofs.Landings.{applied_twice, entry_is, entry_none, entry_one, is_its, receives}
 use Rattle.avs_receiver.proofs.Writings.{due_one, same_slots, same_vols}
-use Rattle.avs_receiver.proofs.Written.{below_written, sets_stay}
-use Rattle.avs_receiver.proofs.Applications.{image_before, images_put, marked_contents}
+use Rattle.avs_receiver.proofs.Applications.{image_before, images_put, marked_contents, fits_landed}
 
 -- ---- what a half is that has applied an entry
 
-off_or : (mark a b : Bool) → mark ≡ false → b ≡ ((mark && a) || b)
+pub off_or : (mark a b : Bool) → mark ≡ false → b ≡ ((mark && a) || b)
 off_or true a b off = absurd (no off)
   where
     no : true ≡ false → ⊥
     no is = cc
 off_or false a b off = refl
 
-off_cond : {X : Type 0} (mark : Bool) (x y : X) → mark ≡ false → y ≡ cond mark x y
+pub off_cond : {X : Type 0} (mark : Bool) (x y : X) → mark ≡ false → y ≡ cond mark x y
 off_cond true x y off = absurd (no off)
   where
     no : true ≡ false → ⊥
     no is = cc
 off_cond false x y off = refl
 
-on_cond : {X : Type 0} (mark : Bool) (x y : X) → mark ≡ true → x ≡ cond mark x y
+pub on_cond : {X : Type 0} (mark : Bool) (x y : X) → mark ≡ true → x ≡ cond mark x y
 on_cond true x y on = refl
 on_cond false x y on = absurd (no on)
   where
@@ -88,7 +88,7 @@ filled_all false there low a b on is full = absurd (no on)
     no : false ≡ true → ⊥
     no is = cc
 
-filled_are : (sets : List SetBits) (mark : Bool) (old new : ℕ) → mark ≡ true → AreFilled sets old new
+pub filled_are : (sets : List SetBits) (mark : Bool) (old new : ℕ) → mark ≡ true → AreFilled sets old new
     → contents_in new (slots_of sets) ≡ marked_contents mark (vols_of sets) old (slots_of sets)
 filled_are sets mark old new on full = fun_ext (λ set.
     filled_all mark (nat_lt set (length (vols_of sets))) (nat_lt set (length (slots_of sets))) (is_filled old (get_or (slots_of sets) set 0)) (is_filled new (get_or (slots_of sets) set 0)) on
@@ -132,14 +132,16 @@ mark_none Mark on = refl
 module _ (sound sound_new : Type 0) (sounds : sound → sound_new) (below : BelowSeen) (h : ReceiverHalf) (place : ℕ) (e : Entry) (on : is_session (state_in h.note) ≡ true) (next : place ≡ h.applied + 1) (can : CanApply (held below h) place e) (over : IsOver below h.sets)
     {E : Type 0} (land : Landing) (u : Unit {0}) (lands : Lands {E = E} h.land h.note.session place e (Ok u) land) where
   landed : IsReceiverInStep sound (held below h) → HasLanded land.disk.image (header_for h.note.session place e) (Some (record { session = h.note.session; place = place; entry = e }))
-  landed st = lands.done st.landing.told (record { header = h.land.header; is = st.landing.step })
+  landed st = lands.done st.memory.landing.told (record { header = h.land.header; is = st.memory.landing.step })
 
-  -- whatever it stands for then, it is settled, and the place done once more changes nothing
-  settled_then : (m : Note) → m.session ≡ h.note.session → is_receiver m.role ≡ true → IsSettled m place land.header
-  settled_then m same role = subst (λ (l : LandHeader). IsSettled m place l) (sym lands.header) (record {
-    earlier = λ some. omega (arith, same);
-    place = subst (λ (k : ℕ). place ≡ cond (is_of m (header_for k place e)) place 0) same (sym (ap (λ (b : Bool). cond b place 0) (is_its m place e role)));
-  })
+  -- by a note of the session the applied place is that of the landed entry, which has its place below; done once more it changes
+  -- nothing
+  place_then : (m : Note) → m.session ≡ h.note.session → is_receiver m.role ≡ true → place ≡ cond (is_of m land.header) land.header.place 0
+  place_then m same role = subst (λ (l : LandHeader). place ≡ cond (is_of m l) l.place 0) (sym lands.header)
+      (subst (λ (k : ℕ). place ≡ cond (is_of m (header_for k place e)) place 0) same (sym (ap (λ (b : Bool). cond b place 0) (is_its m place e role))))
+
+  fits_then : (m : Note) → m.session ≡ h.note.session → (new : BelowSeen) → new.sizes ≡ below.sizes → IsLandedFor m land.header (vols_of h.sets) new
+  fits_then m same new sizes = subst (λ (l : LandHeader). IsLandedFor m l (vols_of h.sets) new) (sym lands.header) (fits_landed sound below h place e on next can over m same new sizes)
 
   again_then : (kept : Sets) → IsReceiverInStep sound (held below h) → (y : HalfState) → y ≡ applied_to (receiver_of kept (held below h)) e → redone y land.header land.disk.image ≡ y
   again_then kept st y is =
@@ -153,7 +155,7 @@ module _ (sound sound_new : Type 0) (sounds : sound → sound_new) (below : Belo
     images_then : IsReceiverInStep sound (held below h) → images_in new.images (vols_of h.sets) ≡ after_entry (images_in below.images (vols_of h.sets)) e
     images_then st =
         images_put sound below h place e on next can over new (Ok u) bytes off w (put (images_in below.images (vols_of h.sets) e.set) e.at e.bytes)
-        (w.done st.sound (st.volumes e.set (can.set off)) ∙ (λ i. put (sym (image_before sound below h place e on next can over off) i) e.at (same i)))
+        (w.done st.memory.sound (st.memory.volumes e.set (can.set off)) ∙ (λ i. put (sym (image_before sound below h place e on next can over off) i) e.at (same i)))
         ∙ entry_one (images_in below.images (vols_of h.sets)) e
 
     blocks_then : (kept : Sets) → IsReceiverInStep sound (held below h) → receiver_of kept (held new (record h { land = land; applied = place })) ≡ applied_to (receiver_of kept (held below h)) e
@@ -168,36 +170,44 @@ module _ (sound sound_new : Type 0) (sounds : sound → sound_new) (below : Belo
         land = lands.goes.lasts;
         count = refl;
         sets = λ set. record { vol = refl; slot = refl; segs = refl; disk = lasts_same (set_at h.sets set).bits.disk };
+        labels = λ set told. refl;
         below = below_written sound below new (set_at h.sets e.set).vol e.at bytes (Ok u) w;
       };
+      session = record { number = refl; role = refl; reverse = refl; applied = refl; mark = off_cond (is_mark e.kind) place h.note.mark off };
       spared = record { faults = w.cause.same; armed = w.still_armed; sets = λ set. spared_same (set_at h.sets set).bits.disk; land = lands.goes.done };
       done = λ st kept. blocks_then kept st;
       step = λ st. record {
-        sound = sounds st.sound;
-        stored = w.stored ∙ st.stored ∙ ap Some (sym w.note);
-        note = subst (λ (b : List ℕ). IsNote b h.note) (sym w.note) st.note;
-        volumes = λ set low. w.told (set_at h.sets set).vol (st.volumes set low);
-        bits = st.bits;
-        landing = record { told = lands.goes.lasts.told st.landing.told; step = subst (λ (l : LandHeader). IsLanding land.disk.image l) (sym lands.header) (landed st).is };
-        settled = settled_then h.note refl (receives h.note on);
+        memory = record {
+          sound = sounds st.memory.sound;
+          stored = w.stored ∙ st.memory.stored ∙ ap Some (sym w.note);
+          note = subst (λ (b : List ℕ). IsNote b h.note) (sym w.note) st.memory.note;
+          volumes = λ set low. w.told (set_at h.sets set).vol (st.memory.volumes set low);
+          bits = st.memory.bits;
+          landing = record {
+            told = lands.goes.lasts.told st.memory.landing.told;
+            step = subst (λ (l : LandHeader). IsLanding land.disk.image l) (sym lands.header) (landed st).is;
+            fits = fits_then h.note refl new w.sizes;
+            place = place_then h.note refl (receives h.note on);
+          };
+        };
         again = λ kept is. again_then kept st (receiver_of kept (held new (record h { land = land; applied = place }))) (blocks_then kept st);
         wiped = st.wiped;
       };
     }
 
   -- the mark
-  module _ {F G : Type 0} (new : BelowSeen) (empty mark : ℕ) (sets : List SetBits) (marks : is_mark e.kind ≡ true) (full : AreFilled h.sets h.note.empty empty)
-      (p : PutsNote {E = F} sound below (record h.note { state = Replicating; empty = empty; mark = mark }) (Ok u) new) (c : ChangesSets {E = G} (every h.sets) false h.sets (Ok u) sets) where
+  module _ {F G : Type 0} (new : BelowSeen) (empty : ℕ) (sets : List SetBits) (marks : is_mark e.kind ≡ true) (full : AreFilled h.sets h.note.empty empty)
+      (p : PutsNote {E = F} sound below (record h.note { state = Replicating; empty = empty; mark = place }) (Ok u) new) (c : ChangesSets {E = G} (every h.sets) false h.sets (Ok u) sets) where
     images_marked : sound → images_in new.images (vols_of h.sets) ≡ after_entry (images_in below.images (vols_of h.sets)) e
     images_marked s = ap (λ (images : List Image). images_in images (vols_of h.sets)) (p.sets.images s)
         ∙ sym (entry_none (images_in below.images (vols_of h.sets)) e (let m = can.entry.most in let z = mark_none e.kind marks in omega (arith, m, z)))
 
-    mark_then : (kept : Sets) → sound → receiver_of kept (held new (record h { land = land; note = record h.note { state = Replicating; empty = empty; mark = mark }; sets = sets; applied = place })) ≡ applied_to (receiver_of kept (held below h)) e
+    mark_then : (kept : Sets) → sound → receiver_of kept (held new (record h { land = land; note = record h.note { state = Replicating; empty = empty; mark = place }; sets = sets; applied = place })) ≡ applied_to (receiver_of kept (held below h)) e
     mark_then kept s =
-        (λ i. half_by (record h.note { state = Replicating; empty = empty; mark = mark }) place new.images (same_vols (every h.sets) false h.sets sets (Ok u) c i) (same_slots (every h.sets) false h.sets sets (Ok u) c i) (wiped_are h.sets sets u c i) kept)
-        ∙ mark_applied h.note kept h.applied place empty mark below.images new.images h.sets e marks next (images_marked s) (receives h.note on) full
+        (λ i. half_by (record h.note { state = Replicating; empty = empty; mark = place }) place new.images (same_vols (every h.sets) false h.sets sets (Ok u) c i) (same_slots (every h.sets) false h.sets sets (Ok u) c i) (wiped_are h.sets sets u c i) kept)
+        ∙ mark_applied h.note kept h.applied place empty place below.images new.images h.sets e marks next (images_marked s) (receives h.note on) full
 
-    pub mark_is : IsApplied sound sound_new (held below h) place e (held new (record h { land = land; note = record h.note { state = Replicating; empty = empty; mark = mark }; sets = sets; applied = place }))
+    pub mark_is : IsApplied sound sound_new (held below h) place e (held new (record h { land = land; note = record h.note { state = Replicating; empty = empty; mark = place }; sets = sets; applied = place }))
     mark_is = record {
       next = next;
       stays = record {
@@ -206,19 +216,28 @@ module _ (sound sound_new : Type 0) (sounds : sound → sound_new) (below : Belo
         land = lands.goes.lasts;
         count = c.count;
         sets = sets_stay (every h.sets) false h.sets sets (Ok u) c;
-        below = stays_noted sound below new p.bytes (Ok u) p.sets;
+        labels = λ set. (c.part set).label;
+        below = below_noted sound below new p.bytes (Ok u) p.sets;
       };
+      session = record { number = refl; role = refl; reverse = refl; applied = refl; mark = on_cond (is_mark e.kind) place h.note.mark marks };
       spared = record { faults = p.sets.cause.same; armed = p.sets.still_armed; sets = λ set. (c.done set).spared; land = lands.goes.done };
-      done = λ st kept. mark_then kept st.sound;
+      done = λ st kept. mark_then kept st.memory.sound;
       step = λ st. record {
-        sound = sounds st.sound;
-        stored = p.sets.stored (told_note below below.note st.stored) ∙ ap Some (sym p.sets.done);
-        note = subst (λ (b : List ℕ). IsNote b (record h.note { state = Replicating; empty = empty; mark = mark })) (sym p.sets.done) p.is;
-        volumes = λ set low. subst (λ (v : ℕ). IsToldAt new v) (sym (ap (λ (s : SetBits). s.vol) (c.part set).rest)) ((stays_noted sound below new p.bytes (Ok u) p.sets).told st.sound (set_at h.sets set).vol (st.volumes set (omega (arith, low, c.count))));
-        bits = record { told = λ set. (c.part set).lasts.told (st.bits.told set); step = λ set. (c.done set).step (st.bits.told set) (st.bits.step set) };
-        landing = record { told = lands.goes.lasts.told st.landing.told; step = subst (λ (l : LandHeader). IsLanding land.disk.image l) (sym lands.header) (landed st).is };
-        settled = settled_then (record h.note { state = Replicating; empty = empty; mark = mark }) refl (receives h.note on);
-        again = λ kept is. again_then kept st (receiver_of kept (held new (record h { land = land; note = record h.note { state = Replicating; empty = empty; mark = mark }; sets = sets; applied = place }))) (mark_then kept st.sound);
+        memory = record {
+          sound = sounds st.memory.sound;
+          stored = p.sets.stored (told_note below below.note st.memory.stored) ∙ ap Some (sym p.sets.done);
+          note = subst (λ (b : List ℕ). IsNote b (record h.note { state = Replicating; empty = empty; mark = place })) (sym p.sets.done) p.is;
+          volumes = λ set low. subst (λ (v : ℕ). IsToldAt new v) (sym (ap (λ (s : SetBits). s.vol) (c.part set).rest)) ((below_noted sound below new p.bytes (Ok u) p.sets).told st.memory.sound (set_at h.sets set).vol (st.memory.volumes set (omega (arith, low, c.count))));
+          bits = record { told = λ set. (c.part set).lasts.told (st.memory.bits.told set); step = λ set. (c.done set).step (st.memory.bits.told set) (st.memory.bits.step set) };
+          landing = record {
+            told = lands.goes.lasts.told st.memory.landing.told;
+            step = subst (λ (l : LandHeader). IsLanding land.disk.image l) (sym lands.header) (landed st).is;
+            fits = subst (λ (v : List ℕ). IsLandedFor (record h.note { state = Replicating; empty = empty; mark = place }) land.header v new) (sym (same_vols (every h.sets) false h.sets sets (Ok u) c))
+                (fits_then (record h.note { state = Replicating; empty = empty; mark = place }) refl new p.sets.sizes);
+            place = place_then (record h.note { state = Replicating; empty = empty; mark = place }) refl (receives h.note on);
+          };
+        };
+        again = λ kept is. again_then kept st (receiver_of kept (held new (record h { land = land; note = record h.note { state = Replicating; empty = empty; mark = place }; sets = sets; applied = place }))) (mark_then kept st.memory.sound);
         wiped = λ is. wiped_are h.sets sets u c;
       };
     }

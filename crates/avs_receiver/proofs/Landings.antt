@@ -70,7 +70,7 @@ in_session n on = (in_role (is_receiver n.role) n.state on).1
 all_on : (a b c : Bool) → a ≡ true → b ≡ true → c ≡ true → (a && (b && c)) ≡ true
 all_on a b c x y z = rw (x, y, z) refl
 
-both_on : (a b : Bool) → a ≡ true → b ≡ true → (a && b) ≡ true
+pub both_on : (a b : Bool) → a ≡ true → b ≡ true → (a && b) ≡ true
 both_on a b x y = rw (x, y) refl
 
 pub is_its : (n : Note) (place : ℕ) (e : Entry) → is_receiver n.role ≡ true → is_of n (header_for n.session place e) ≡ true
@@ -81,7 +81,7 @@ is_done_again n place e role on = both_on (is_of n (header_for n.session place e
 
 -- ---- what a load finds
 
-on_true : {X : Type 0} (b : Bool) (x y : X) → b ≡ true → cond b x y ≡ x
+pub on_true : {X : Type 0} (b : Bool) (x y : X) → b ≡ true → cond b x y ≡ x
 on_true true x y on = refl
 on_true false x y on = absurd (no on)
   where
@@ -165,4 +165,17 @@ applied_twice y e none = λ i. record (applied_to y e) {
 }
   where
     held_twice : without_place (y.applied + 1 + 1) (without_place (y.applied + 1) y.held) ≡ without_place (y.applied + 1) y.held
+    held_twice = rw none refl
+
+-- what is done once more already
+pub redone_twice : (y : HalfState) (l : LandHeader) (img : Image) → y.held ≡ [] → redone (redone y l img) l img ≡ redone y l img
+redone_twice y l img none = λ i. record (redone y l img) {
+  contents = λ set. or_twice (is_mark (entry_kind l.kind) && y.on set) (y.contents set) i;
+  images = entry_twice y.images (entry_on l img) i;
+  state = cond_twice (is_mark (entry_kind l.kind)) Replicating y.state i;
+  due = cond_twice (is_mark (entry_kind l.kind)) nothing_due y.due i;
+  held = held_twice i;
+}
+  where
+    held_twice : without_place (l.place + 1) (without_place (y.applied + 1) y.held) ≡ without_place (y.applied + 1) y.held
     held_twice = rw none refl

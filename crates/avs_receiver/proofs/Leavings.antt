@@ -1,29 +1,25 @@
 -- A receiver leaves by one note.
-use Rattle.std.proofs.Common.{◌≡◌, ◌⊎◌, inl, inr, ℕ, Bool, true, false, ◌&&◌, cond, List, [], length, get_or, Result, Ok, Err, Some, ◌∙◌, sym, refl, ap, subst, arith}
+use Rattle.std.proofs.Common.{◌≡◌, ◌⊎◌, inl, inr, ℕ, ◌≤◌, Bool, true, false, ◌&&◌, not, cond, eqb, List, [], length, get_or, Result, Ok, Err, Some, ◌∙◌, sym, refl, ap, subst, arith}
 use Rattle.avs_seg.specs.Image.{Image}
 use Rattle.avs_dev.specs.Devices.{NoneFell}
 use Rattle.avs_dev.specs.Below.{BelowSeen, SetsNote}
 use Rattle.avs_dev.proofs.Going.{lasts_same, spared_same}
+use Rattle.avs_code.specs.declared.land_headers.LandHeader.{LandHeader}
 use Rattle.avs_mirrors.specs.Due.{nothing_due}
 use Rattle.avs_mirrors.specs.Half.{HalfRole, Lone, Sender, Receiver, Sets, State, Logging, Replicating, is_marked, is_receiver, is_session, left_receiver}
 use Rattle.avs_sync.specs.Note.{IsNote, NoteKeeps, may_be}
 use Rattle.avs_sync.specs.declared.note.Note.{Note}
-use Rattle.avs_halves.specs.SetBits.{due_of, set_at}
+use Rattle.avs_halves.specs.SetBits.{SetBits, due_of, set_at}
 use Rattle.avs_halves.specs.Writing.{PutsNote}
+use Rattle.avs_halves.specs.Over.{IsOver}
+use Rattle.avs_halves.proofs.Staying.{below_noted, below_same, may_leave, told_note}
 use Rattle.avs_receiver.specs.Held.{ReceiverHalf, ReceiverHeld, half_noted, held, parts_of}
-use Rattle.avs_receiver.specs.Meaning.{Finds, IsReceiverInStep, found_by, half_by, is_of, lies_on, receiver_of, slots_of, state_in, vols_of}
-use Rattle.avs_receiver.specs.Over.{IsOver}
-use Rattle.avs_receiver.specs.Going.{BelowStays, NoneFailed, ReceiverStays}
+use Rattle.avs_receiver.specs.Meaning.{Finds, IsReceiverInStep, found_by, half_by, is_of, lies_on, receiver_of, slots_of, state_in, vols_of, IsLandedFor, vols_in}
+use Rattle.avs_receiver.specs.Going.{NoneFailed, ReceiverStays, BelowAloneFailed, SessionStays}
 use Rattle.avs_receiver.specs.Leaving.{Leaves, note_left}
-use Rattle.avs_receiver.proofs.Meanings.{found_old, lies_is, stored_is, told_note}
+use Rattle.avs_receiver.proofs.Meanings.{found_old, lies_is, stored_is, fits_parts}
 
 -- ---- a call that does nothing
-
-pub none_fell : (faults : List ℕ) → NoneFell faults faults
-none_fell faults = record { same_length = refl; each = λ i. omega arith }
-
-pub below_same : (sound : Type 0) (below : BelowSeen) → BelowStays sound below below
-below_same sound below = record { sizes = refl; steady = refl; told = λ s vol told. told; noted = λ told. told; faults = none_fell below.faults }
 
 pub stays_same : (sound : Type 0) (h : ReceiverHeld) → ReceiverStays sound h h
 stays_same sound h = record {
@@ -32,15 +28,25 @@ stays_same sound h = record {
   land = lasts_same h.half.land.disk;
   count = refl;
   sets = λ set. record { vol = refl; slot = refl; segs = refl; disk = lasts_same (set_at h.half.sets set).bits.disk };
+  labels = λ set told. refl;
   below = below_same sound h.below;
 }
 
 pub none_failed : (h : ReceiverHeld) → NoneFailed h h
 none_failed h = record { faults = refl; armed = refl; sets = λ set. spared_same (set_at h.half.sets set).bits.disk; land = spared_same h.half.land.disk }
 
+-- its session in memory is as it was
+pub session_same : (h : ReceiverHalf) → SessionStays h h h.applied h.note.mark
+session_same h = record { number = refl; role = refl; reverse = refl; applied = refl; mark = refl }
+
+-- also where its sets have changed
+pub session_sets : (h : ReceiverHalf) (sets : List SetBits) → SessionStays h (record h { sets = sets }) h.applied h.note.mark
+session_sets h sets = record { number = refl; role = refl; reverse = refl; applied = refl; mark = refl }
+
 pub leaves_nothing : {T E : Type 0} (sound : Type 0) (below : BelowSeen) (h : ReceiverHalf) (u : T) → state_in h.note ≡ Logging → Leaves {E = E} sound sound (held below h) (Ok u) (held below h)
 leaves_nothing sound below h u logging = record {
   stays = stays_same sound (held below h);
+  session = session_same h;
   spared = none_failed (held below h);
   failed = tt;
   done = λ s kept. λ i. record (receiver_of kept (held below h)) { state = logging i };
@@ -61,15 +67,6 @@ session_not n on is = session_off (state_in n) on is
 
 -- ---- by a note
 
-pub stays_noted : {T E : Type 0} (sound : Type 0) (old new : BelowSeen) (bytes : List ℕ) (result : Result T E) → SetsNote sound old bytes result new → BelowStays sound old new
-stays_noted sound old new bytes result w = record {
-  sizes = w.sizes;
-  steady = w.steady;
-  told = λ s vol told. subst (λ (images : List Image). length (get_or images vol []) ≡ get_or new.sizes vol 0) (sym (w.images s)) (subst (λ (sizes : List ℕ). length (get_or old.images vol []) ≡ get_or sizes vol 0) (sym w.sizes) told);
-  noted = w.told;
-  faults = w.cause.later;
-}
-
 pub noted_stays : {T E : Type 0} (sound : Type 0) (old new : BelowSeen) (h : ReceiverHalf) (n : Note) (applied : ℕ) (bytes : List ℕ) (result : Result T E) → SetsNote sound old bytes result new → ReceiverStays sound (held old h) (held new (half_noted h n applied))
 noted_stays sound old new h n applied bytes result w = record {
   host = refl;
@@ -77,11 +74,19 @@ noted_stays sound old new h n applied bytes result w = record {
   land = lasts_same h.land.disk;
   count = refl;
   sets = λ set. record { vol = refl; slot = refl; segs = refl; disk = lasts_same (set_at h.sets set).bits.disk };
-  below = stays_noted sound old new bytes result w;
+  labels = λ set told. refl;
+  below = below_noted sound old new bytes result w;
 }
 
 pub noted_spared : {T E : Type 0} (sound : Type 0) (old new : BelowSeen) (h : ReceiverHalf) (n : Note) (applied : ℕ) (bytes : List ℕ) (u : T) → SetsNote {E = E} sound old bytes (Ok u) new → NoneFailed (held old h) (held new (half_noted h n applied))
 noted_spared sound old new h n applied bytes u w = record { faults = w.cause.same; armed = w.still_armed; sets = λ set. spared_same (set_at h.sets set).bits.disk; land = spared_same h.land.disk }
+
+pub note_failed : {T E : Type 0} (sound : Type 0) (old new : BelowSeen) (h : ReceiverHalf) (bytes : List ℕ) (e : E) → SetsNote {T = T} sound old bytes (Err e) new → BelowAloneFailed (held old h) (held new h)
+note_failed sound old new h bytes e w = record {
+  failed = record { rose = w.cause.failed; spent = w.spent };
+  sets = λ set. spared_same (set_at h.sets set).bits.disk;
+  land = spared_same h.land.disk;
+}
 
 either_logging : (b : Bool) → cond b Logging Logging ≡ Logging
 either_logging true = refl
@@ -103,12 +108,11 @@ no_redo : (a : Bool) {X : Type 0} (x y : X) → cond (a && false) x y ≡ y
 no_redo true x y = refl
 no_redo false x y = refl
 
--- it can be written
-may_leave : (r : HalfRole) → may_be r Logging ≡ true
-may_leave Lone = refl
-may_leave Sender = refl
-may_leave Receiver = refl
+-- nothing is done once more of a half that has left
+left_fits : (n : Note) (l : LandHeader) (vols : List ℕ) (below : BelowSeen) → (not (eqb l.kind 0) ≡ true → l.session ≤ n.session) → IsLandedFor (note_left n) l vols below
+left_fits n l vols below earlier = record { earlier = earlier; room = λ is. absurd (not_session (is_of n l) is) }
 
+-- it can be written
 pub left_keeps : (n : Note) → NoteKeeps n → NoteKeeps (note_left n)
 left_keeps n keeps = record { session = keeps.session; state = may_leave n.role; mark = keeps.mark }
 
@@ -119,25 +123,32 @@ left_is kept below new h images = λ i. record (left_receiver (receiver_of kept 
 pub found_noted : (sound : Type 0) (kept : Sets) (below new : BelowSeen) (h : ReceiverHalf) → IsReceiverInStep sound (held below h) → new.images ≡ below.images → IsOver new h.sets → found_by kept (note_left h.note) h.land.header (parts_of (held new h)) ≡ left_receiver (receiver_of kept (held below h))
 found_noted sound kept below new h st images over =
     ap left_receiver (no_redo (is_of h.note h.land.header) _ (lies_on kept (note_left h.note) h.land.header (parts_of (held new h)))
-    ∙ lies_is kept (note_left h.note) h.land.header new h st.bits over)
-    ∙ (λ i. left_receiver (half_by (note_left h.note) (sym st.settled.place i) (images i) (vols_of h.sets) (slots_of h.sets) (no_due (is_receiver h.note.role) nothing_due (due_of h.sets) i) kept))
+    ∙ lies_is kept (note_left h.note) h.land.header new h st.memory.bits over)
+    ∙ (λ i. left_receiver (half_by (note_left h.note) (sym st.memory.landing.place i) (images i) (vols_of h.sets) (slots_of h.sets) (no_due (is_receiver h.note.role) nothing_due (due_of h.sets) i) kept))
 
 pub leaves_ok : {T E : Type 0} (sound sound_new : Type 0) (below new : BelowSeen) (h : ReceiverHalf) (u : T) → (state_in h.note ≡ Logging → ⊥)
     → PutsNote {E = E} sound below (note_left h.note) (Ok u) new → (sound → sound_new)
     → Leaves {E = E} sound sound_new (held below h) (Ok u) (held new (half_noted h (note_left h.note) h.applied))
 leaves_ok sound sound_new below new h u session p sounds = record {
   stays = noted_stays sound below new h (note_left h.note) h.applied p.bytes (Ok u) p.sets;
+  session = record { number = refl; role = refl; reverse = refl; applied = refl; mark = refl };
   spared = noted_spared sound below new h (note_left h.note) h.applied p.bytes u p.sets;
   failed = tt;
   done = λ s kept. left_is kept below new h (p.sets.images s);
   step = λ st. record {
-    sound = sounds st.sound;
-    stored = p.sets.stored (told_note below below.note st.stored) ∙ ap Some (sym p.sets.done);
-    note = subst (λ (bytes : List ℕ). IsNote bytes (note_left h.note)) (sym p.sets.done) p.is;
-    volumes = λ set there. (stays_noted sound below new p.bytes (Ok u) p.sets).told st.sound (set_at h.sets set).vol (st.volumes set there);
-    bits = st.bits;
-    landing = record { told = st.landing.told; step = st.landing.step };
-    settled = record { earlier = st.settled.earlier; place = st.settled.place };
+    memory = record {
+      sound = sounds st.memory.sound;
+      stored = p.sets.stored (told_note below below.note st.memory.stored) ∙ ap Some (sym p.sets.done);
+      note = subst (λ (bytes : List ℕ). IsNote bytes (note_left h.note)) (sym p.sets.done) p.is;
+      volumes = λ set there. (below_noted sound below new p.bytes (Ok u) p.sets).told st.memory.sound (set_at h.sets set).vol (st.memory.volumes set there);
+      bits = st.memory.bits;
+      landing = record {
+        told = st.memory.landing.told;
+        step = st.memory.landing.step;
+        fits = left_fits h.note h.land.header (vols_of h.sets) new st.memory.landing.fits.earlier;
+        place = st.memory.landing.place;
+      };
+    };
     again = λ kept is. absurd (not_session (is_of h.note h.land.header) is);
     wiped = λ is. absurd (not_marked (is_receiver h.note.role) is);
   };
@@ -150,11 +161,12 @@ pub leaves_err : {T E : Type 0} (sound sound_new : Type 0) (below new : BelowSee
     → Leaves {T = T} sound sound_new (held below h) (Err e) (held new h)
 leaves_err sound sound_new below new h e session over p = record {
   stays = noted_stays sound below new h h.note h.applied p.bytes (Err e) p.sets;
+  session = session_same h;
   spared = tt;
-  failed = record { rose = p.sets.cause.failed; spent = p.sets.spent };
+  failed = note_failed sound below new h p.bytes e p.sets;
   done = λ s. tt;
   step = λ st. tt;
-  stopped = λ st kept. stopped st kept (p.sets.left (told_note below below.note st.stored));
+  stopped = λ st kept. stopped st kept (p.sets.left (told_note below below.note st.memory.stored));
   idle = λ is. absurd (session is);
 }
   where
@@ -162,16 +174,18 @@ leaves_err sound sound_new below new h e session over p = record {
     stopped st kept (inl same) = record {
       note = h.note;
       header = h.land.header;
-      noted = stored_is new below.note h.note (same ∙ st.stored) st.note;
-      landed = st.landing.step;
-      found = found_old sound kept below new h st (p.sets.images st.sound) over;
+      noted = stored_is new below.note h.note (same ∙ st.memory.stored) st.memory.note;
+      landed = st.memory.landing.step;
+      fits = fits_parts h.note h.land.header h.sets h.sets below new refl p.sets.sizes st.memory.landing.fits;
+      found = found_old sound kept below new h st (p.sets.images st.memory.sound) over;
     }
     stopped st kept (inr put) = record {
       note = note_left h.note;
       header = h.land.header;
       noted = stored_is new p.bytes (note_left h.note) put p.is;
-      landed = st.landing.step;
-      found = found_noted sound kept below new h st (p.sets.images st.sound) over;
+      landed = st.memory.landing.step;
+      fits = left_fits h.note h.land.header (vols_in (parts_of (held new h))) new st.memory.landing.fits.earlier;
+      found = found_noted sound kept below new h st (p.sets.images st.memory.sound) over;
     }
 
 -- the notes of the two other steps can be written

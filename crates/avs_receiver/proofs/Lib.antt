@@ -9,3 +9,8 @@ pub mod Landings
 pub mod Applications
 pub mod Happened
 pub mod Nexts
+pub mod Redone
+pub mod Settled
+pub mod Loaded
+pub mod Lent
+pub mod Sure

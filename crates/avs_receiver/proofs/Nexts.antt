@@ -9,11 +9,11 @@ use Rattle.avs_mirrors.specs.Half.{Replicating, is_session}
 use Rattle.avs_sync.specs.declared.note.Note.{Note}
 use Rattle.avs_halves.specs.Writing.{PutsNote}
 use Rattle.avs_land.specs.Landing.{Landing, Lands}
+use Rattle.avs_halves.specs.Over.{IsOver}
 use Rattle.avs_receiver.specs.Held.{ReceiverHalf, ReceiverHeld, held}
 use Rattle.avs_receiver.specs.Meaning.{state_in}
-use Rattle.avs_receiver.specs.Over.{IsOver}
 use Rattle.avs_receiver.specs.Marking.{IsMarkNote, PutsEntry}
-use Rattle.avs_receiver.specs.Applying.{CanApply, IsApplied, IsApplyStopped, RestApplied, RestPut}
+use Rattle.avs_receiver.specs.Applying.{CanApply, IsApplied, IsApplyStopped, IsNext, RestApplied, RestPut}
 use Rattle.avs_receiver.proofs.Stopped.{not_err}
 use Rattle.avs_receiver.proofs.Applications.{blocks_stopped, note_stopped, wipe_stopped}
 use Rattle.avs_receiver.proofs.Happened.{blocks_are, mark_is}
@@ -29,7 +29,7 @@ module _ (sound : Type 0) (below : BelowSeen) (h : ReceiverHalf) (place : ℕ) (
       | inl stops ↦ absurd (not_err stops.answer)
       | inr w ↦ subst (λ (x : ReceiverHalf). IsApplied sound sound_new (held below h) place e (held end.below (record x { applied = place })))
           (sym (w.half ∙ ap (λ (n : Note). record h { land = land; note = n; sets = end.half.sets }) w.is.is))
-          (mark_is sound sound_new sounds below h place e on next can over land u lands end.below w.note.empty place end.half.sets marks w.is.slots (noted w.note (Ok u) w.is w.puts) w.wipes)
+          (mark_is sound sound_new sounds below h place e on next can over land u lands end.below w.note.empty end.half.sets marks w.is.slots (noted w.note (Ok u) w.is w.puts) w.wipes)
     ]
     | inr blocks ↦ let b = p.blocks blocks in subst (λ (x : ReceiverHalf). IsApplied sound sound_new (held below h) place e (held end.below (record x { applied = place })))
         (sym b.half)
@@ -52,9 +52,9 @@ module _ (sound : Type 0) (below : BelowSeen) (h : ReceiverHalf) (place : ℕ) (
   ]
 
 -- what is kept besides below
-pub rest_then : {R : Type 0} (wrote : R → ℕ → ℕ → List ℕ → Bool → R → Type 0) (rest new : R) (below : BelowSeen) (h : ReceiverHalf) (land : Landing) (session place : ℕ) (e : Entry) (ok : Bool)
+pub rest_then : {R : Type 0} (wrote : R → ℕ → ℕ → List ℕ → Bool → R → Type 0) (rest new : R) (below : BelowSeen) (h : ReceiverHalf) (land : Landing) (session place : ℕ) (e : Entry) (ok : Bool) → IsNext (held below h) session place
     → RestPut wrote rest (held below (record h { land = land })) e ok new → RestApplied wrote rest (held below h) session place e ok new
-rest_then wrote rest new below h land session place e ok p = elim (cases_Bool (is_mark e.kind)) [
-  | inl marks ↦ inl (record { same = p.mark marks; unless = λ done next. marks })
-  | inr blocks ↦ let b = p.blocks blocks in inr (record { bytes = b.bytes; blocks = b.blocks; once = b.once })
+rest_then wrote rest new below h land session place e ok next p = elim (cases_Bool (is_mark e.kind)) [
+  | inl marks ↦ inl (record { same = p.mark marks; unless = λ done is. marks })
+  | inr blocks ↦ let b = p.blocks blocks in inr (record { next = next; blocks = blocks; once = record { bytes = b.bytes; blocks = b.blocks; once = b.once } })
 ]

@@ -4,7 +4,7 @@ use Rattle.std.specs.Int.{bit_at}
 use Rattle.std.proofs.lemmas.Bool.{cases_lt, cases_eq}
 use Rattle.avs_dev.specs.Below.{BelowSeen}
 use Rattle.avs_halves.specs.SetBits.{SetBits, set_at}
-use Rattle.avs_receiver.specs.Over.{IsOver}
+use Rattle.avs_halves.specs.Over.{IsOver}
 use Rattle.avs_receiver.specs.Slots.{HaveSlots, IsFree, AreEmpty, AreFilled}
 
 -- the sets below a place have this bit in their slots, and the slots of no set are as they were

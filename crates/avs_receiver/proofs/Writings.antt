@@ -14,8 +14,8 @@ use Rattle.avs_mirrors.specs.Entries.{touches, with_image, written}
 use Rattle.avs_mirrors.specs.Half.{Sets, with_set}
 use Rattle.avs_halves.specs.SetBits.{SetBits, due_of, no_set, set_at}
 use Rattle.avs_halves.specs.Changing.{ChangesSets}
+use Rattle.avs_halves.proofs.Lying.{below_is}
 use Rattle.avs_receiver.specs.Meaning.{images_in, slots_of, vols_of}
-use Rattle.avs_receiver.proofs.Meanings.{below_is}
 
 -- ---- sets of which the bits alone have changed
 

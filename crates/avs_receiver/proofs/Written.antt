@@ -19,31 +19,15 @@ use Rattle.avs_code.specs.declared.land_headers.LandHeader.{LandHeader}
 use Rattle.avs_halves.specs.SetBits.{SetBits, due_of, no_set, set_at}
 use Rattle.avs_halves.specs.Changing.{ChangesSets}
 use Rattle.avs_halves.specs.Writing.{IsRangeOfSet, touched}
+use Rattle.avs_halves.specs.Over.{IsOver}
+use Rattle.avs_halves.specs.Found.{is_filled}
+use Rattle.avs_halves.proofs.Staying.{below_written, sets_stay}
 use Rattle.avs_receiver.specs.Held.{ReceiverHalf, held}
-use Rattle.avs_receiver.specs.Meaning.{IsReceiverInStep, contents_in, half_by, images_in, is_filled, is_redone, receiver_of, slots_of, state_in, vols_of}
-use Rattle.avs_receiver.specs.Over.{IsOver}
-use Rattle.avs_receiver.specs.Going.{BelowStays, SetStays}
+use Rattle.avs_receiver.specs.Meaning.{IsReceiverInStep, contents_in, half_by, images_in, is_redone, receiver_of, slots_of, state_in, vols_of, IsLandedFor}
 use Rattle.avs_receiver.specs.Writing.{IsWritten, MayWrite, write_of}
+use Rattle.avs_receiver.proofs.Meanings.{fits_stays}
+use Rattle.avs_receiver.proofs.Leavings.{session_sets}
 use Rattle.avs_receiver.proofs.Writings.{all_noted, images_one, same_slots, same_vols, touched_are, with_same}
-
--- ---- devices
-
-pub sets_stay : {T E : Type 0} (keys : Keys) (on : Bool) (old new : List SetBits) (r : Result T E) → ChangesSets keys on old r new → (set : ℕ) → SetStays (set_at old set) (set_at new set)
-sets_stay keys on old new r c set = let p = c.part set in record {
-  vol = ap (λ (s : SetBits). s.vol) p.rest;
-  slot = ap (λ (s : SetBits). s.slot) p.rest;
-  segs = ap (λ (s : SetBits). s.bits.segs) p.rest;
-  disk = p.lasts;
-}
-
-pub below_written : {T E : Type 0} (sound : Type 0) (old new : BelowSeen) (vol at : ℕ) (bytes : List ℕ) (r : Result T E) → WritesBelow sound old vol at bytes r new → BelowStays sound old new
-below_written sound old new vol at bytes r w = record {
-  sizes = w.sizes;
-  steady = w.steady;
-  told = λ s any. w.told any;
-  noted = λ told. subst (λ (o : Option (List ℕ)). IsTrue (is_some o)) (sym w.stored) told;
-  faults = w.cause.later;
-}
 
 -- ---- a half in no session
 
@@ -129,7 +113,7 @@ module _ (sound : Type 0) (below : BelowSeen) (h : ReceiverHalf) (set at : ℕ) 
   image_is = ap (λ (b : Bool). cond b (get_or below.images (get_or vols set 0) []) []) (low_on set (length vols) there_vols) ∙ ap (λ (v : ℕ). get_or below.images v []) vol_is
 
   pub told_at : IsReceiverInStep sound (held below h) → IsToldAt below (set_at h.sets set).vol
-  told_at st = st.volumes set there
+  told_at st = st.memory.volumes set there
 
   module _ {T E : Type 0} (new : BelowSeen) (r : Result T E) (w : WritesBelow sound below (set_at h.sets set).vol at bytes r new) where
     -- whatever the volume has then, the others are as they were
@@ -150,31 +134,40 @@ module _ (sound : Type 0) (below : BelowSeen) (h : ReceiverHalf) (set at : ℕ) 
     half_then kept st =
         (λ i. half_by h.note h.applied new.images (same_vols (touched set at (length bytes)) true h.sets sets (Ok u) c i) (same_slots (touched set at (length bytes)) true h.sets sets (Ok u) c i) (due_then i) (with_set kept set false))
         ∙ (λ i. record (with_write (receiver_of kept (held below h)) (write_of set at bytes)) {
-          images = images_are new (Ok u) w (put (images_in below.images (vols_of h.sets) set) at (blocks_of bytes)) (w.done st.sound (told_at st) ∙ ap (λ (img : Image). put img at (blocks_of bytes)) (sym image_is)) i;
+          images = images_are new (Ok u) w (put (images_in below.images (vols_of h.sets) set) at (blocks_of bytes)) (w.done st.memory.sound (told_at st) ∙ ap (λ (img : Image). put img at (blocks_of bytes)) (sym image_is)) i;
           contents = with_same (contents_in h.note.empty (slots_of h.sets)) set contents_at i;
         })
 
     pub is_written : (sound_new : Type 0) → (sound → sound_new) → IsWritten sound sound_new (held below h) (write_of set at bytes) (held new (record h { sets = sets }))
     is_written sound_new sounds = record {
       may = may;
+      session = session_sets h sets;
       stays = record {
         host = refl;
         queue = refl;
         land = lasts_same h.land.disk;
         count = c.count;
         sets = sets_stay (touched set at (length bytes)) true h.sets sets (Ok u) c;
+        labels = λ t. (c.part t).label;
         below = below_written sound below new (set_at h.sets set).vol at bytes (Ok u) w;
       };
       spared = record { faults = w.cause.same; armed = w.still_armed; sets = λ t. (c.done t).spared; land = spared_same h.land.disk };
       done = λ st kept. half_then kept st;
       step = λ st. record {
-        sound = sounds st.sound;
-        stored = w.stored ∙ st.stored ∙ ap Some (sym w.note);
-        note = subst (λ (b : List ℕ). IsNote b h.note) (sym w.note) st.note;
-        volumes = λ t low. subst (λ (v : ℕ). IsToldAt new v) (sym (ap (λ (s : SetBits). s.vol) (c.part t).rest)) (w.told (set_at h.sets t).vol (st.volumes t (omega (arith, low, c.count))));
-        bits = record { told = λ t. (c.part t).lasts.told (st.bits.told t); step = λ t. (c.done t).step (st.bits.told t) (st.bits.step t) };
-        landing = record { told = st.landing.told; step = st.landing.step };
-        settled = record { earlier = st.settled.earlier; place = st.settled.place };
+        memory = record {
+          sound = sounds st.memory.sound;
+          stored = w.stored ∙ st.memory.stored ∙ ap Some (sym w.note);
+          note = subst (λ (b : List ℕ). IsNote b h.note) (sym w.note) st.memory.note;
+          volumes = λ t low. subst (λ (v : ℕ). IsToldAt new v) (sym (ap (λ (s : SetBits). s.vol) (c.part t).rest)) (w.told (set_at h.sets t).vol (st.memory.volumes t (omega (arith, low, c.count))));
+          bits = record { told = λ t. (c.part t).lasts.told (st.memory.bits.told t); step = λ t. (c.done t).step (st.memory.bits.told t) (st.memory.bits.step t) };
+          landing = record {
+            told = st.memory.landing.told;
+            step = st.memory.landing.step;
+            fits = subst (λ (v : List ℕ). IsLandedFor h.note h.land.header v new) (sym (same_vols (touched set at (length bytes)) true h.sets sets (Ok u) c))
+                (fits_stays h.note h.land.header (vols_of h.sets) below new w.sizes st.memory.landing.fits);
+            place = st.memory.landing.place;
+          };
+        };
         again = λ kept is. absurd (never (is_redone h.note h.land.header) (away_again h.note h.land.header away) is);
         wiped = λ is. absurd (never (is_marked (state_in h.note)) (away_unmarked h.note away) is);
       };

@@ -1,5 +1,5 @@
 -- A place is applied.
-use Rattle.std.specs.Prelude.{◌≡◌, ◌≢◌, ◌⊎◌, ℕ, ◌+◌, ◌^◌, ◌<◌, ◌≤◌, Bool, true, false, List, length, Result, Ok, Err}
+use Rattle.std.specs.Prelude.{◌≡◌, ◌≢◌, ◌⊎◌, ℕ, ◌+◌, ◌^◌, ◌<◌, ◌≤◌, Bool, true, false, if◌then◌else◌, List, length, Result, Ok, Err}
 use Rattle.avs_seg.specs.Image.{blocks_of}
 use Rattle.avs_dev.specs.Below.{size_of}
 use Rattle.avs_model.specs.declared.answer.Refusal.{Refusal}
@@ -11,7 +11,7 @@ use Rattle.avs_halves.specs.SetBits.{set_at}
 use Rattle.avs_land.specs.Landed.{IsEntry}
 use Rattle.avs_receiver.specs.Held.{ReceiverHeld, parts_of}
 use Rattle.avs_receiver.specs.Meaning.{FindsEither, IsReceiverInStep, StandsFor, receiver_of, state_in}
-use Rattle.avs_receiver.specs.Going.{NoneFailed, OneFailed, ReceiverStays}
+use Rattle.avs_receiver.specs.Going.{NoneFailed, OneFailed, ReceiverStays, SessionStays}
 use Rattle.avs_receiver.specs.Refusing.{IsWrongState}
 
 -- ---- which place it is
@@ -44,6 +44,7 @@ pub record HasPlace (old : ReceiverHeld) (place : ℕ) (new : ReceiverHeld) : Ty
 pub record IsApplied (sound sound_new : Type 0) (old : ReceiverHeld) (place : ℕ) (e : Entry) (new : ReceiverHeld) : Type 0 where
   pub next : place ≡ old.half.applied + 1
   pub stays : ReceiverStays sound old new
+  pub session : SessionStays old.half new.half place (if is_mark e.kind then place else old.half.note.mark)
   pub spared : NoneFailed old new
   pub done : IsReceiverInStep sound old → (kept : Sets) → StandsFor new (applied_to (receiver_of kept old) e)
   pub step : IsReceiverInStep sound old → IsReceiverInStep sound_new new
@@ -109,5 +110,11 @@ pub record WroteNothing {R : Type 0} (rest : R) (old : ReceiverHeld) (session pl
   pub same : new ≡ rest
   pub unless : ok ≡ true → IsNext old session place → is_mark e.kind ≡ true
 
+-- one write did, of the entry of the place that is applied next, which is not the mark
+pub record WroteNext {R : Type 0} (wrote : R → ℕ → ℕ → List ℕ → Bool → R → Type 0) (rest : R) (old : ReceiverHeld) (session place : ℕ) (e : Entry) (ok : Bool) (new : R) : Type 0 where
+  pub next : IsNext old session place
+  pub blocks : is_mark e.kind ≡ false
+  pub once : WroteEntry wrote rest old e ok new
+
 abbrev pub RestApplied : {R : Type 0} → (R → ℕ → ℕ → List ℕ → Bool → R → Type 0) → R → ReceiverHeld → ℕ → ℕ → Entry → Bool → R → Type 0
-RestApplied wrote rest old session place e ok new = WroteNothing rest old session place e ok new ⊎ WroteEntry wrote rest old e ok new
+RestApplied wrote rest old session place e ok new = WroteNothing rest old session place e ok new ⊎ WroteNext wrote rest old session place e ok new

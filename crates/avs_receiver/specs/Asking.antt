@@ -6,9 +6,10 @@ use Rattle.avs_model.specs.declared.answer.Refusal.{Refusal}
 use Rattle.avs_model.specs.declared.answer.Refusal.TheVariants as refusal
 use Rattle.avs_mirrors.specs.Half.{Receiver, Receiving, Sets, asked, left_receiver}
 use Rattle.avs_sync.specs.declared.note.Note.{Note}
+use Rattle.avs_halves.specs.Going.{BelowFailed}
 use Rattle.avs_receiver.specs.Held.{ReceiverHalf, ReceiverHeld, parts_of}
 use Rattle.avs_receiver.specs.Meaning.{FindsEither, IsReceiverInStep, StandsFor, receiver_of}
-use Rattle.avs_receiver.specs.Going.{BelowFailed, NoneFailed, ReceiverStays}
+use Rattle.avs_receiver.specs.Going.{NoneFailed, ReceiverStays, BelowAloneFailed}
 use Rattle.avs_receiver.specs.Refusing.{IsNotLater}
 use Rattle.avs_receiver.specs.Slots.{AreEmpty}
 
@@ -30,6 +31,7 @@ pub record IsAskedNote (h : ReceiverHalf) (session : ℕ) (n : Note) : Type 0 wh
 pub record IsAsked (sound sound_new : Type 0) (old : ReceiverHeld) (session : ℕ) (new : ReceiverHeld) : Type 0 where
   pub later : old.half.note.session < session
   pub note : IsAskedNote old.half session new.half.note
+  pub none : new.half.applied ≡ 0
   pub stays : ReceiverStays sound old new
   pub spared : NoneFailed old new
   pub done : sound → (kept : Sets) → StandsFor new (asked (receiver_of kept old) session)
@@ -40,7 +42,7 @@ pub record IsNotAsked (sound : Type 0) (old : ReceiverHeld) (session : ℕ) (why
   pub answer : why ≡ refusal.Fault
   pub later : old.half.note.session < session
   pub stays : ReceiverStays sound old new
-  pub failed : BelowFailed old.below new.below
+  pub failed : BelowAloneFailed old new
   pub stopped : IsReceiverInStep sound old → (kept : Sets)
       → FindsEither (parts_of new) (left_receiver (receiver_of kept old)) (left_receiver (asked (receiver_of kept old) session))
 

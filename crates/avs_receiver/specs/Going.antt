@@ -1,26 +1,12 @@
 -- What every call leaves of a receiver, and when it may fail.
-use Rattle.std.specs.Prelude.{◌≡◌, ◌⊎◌, ℕ, length, IsTrue}
-use Rattle.avs_dev.specs.Seen.{Lasts, IsSpared, Fails}
-use Rattle.avs_dev.specs.Devices.{NoneFell, OneRose, UsesOneTear, OneFails}
-use Rattle.avs_dev.specs.Below.{BelowSeen, IsToldAt, IsNoteTold}
-use Rattle.avs_halves.specs.SetBits.{SetBits, set_at, disk_at}
-use Rattle.avs_receiver.specs.Held.{ReceiverHeld}
-
--- of what lies below: its volumes are as large, those that tell their blocks tell them where it was sound, and no count of faults has
--- fallen
-pub record BelowStays (sound : Type 0) (old new : BelowSeen) : Type 0 where
-  pub sizes : new.sizes ≡ old.sizes
-  pub steady : new.steady ≡ old.steady
-  pub told : sound → (vol : ℕ) → IsToldAt old vol → IsToldAt new vol
-  pub noted : IsNoteTold old → IsNoteTold new
-  pub faults : NoneFell old.faults new.faults
-
--- of a set: its volume, its slot, its size, and its disk
-pub record SetStays (old new : SetBits) : Type 0 where
-  pub vol : new.vol ≡ old.vol
-  pub slot : new.slot ≡ old.slot
-  pub segs : new.bits.segs ≡ old.bits.segs
-  pub disk : Lasts old.bits.disk new.bits.disk
+use Rattle.std.specs.Prelude.{◌≡◌, ◌⊎◌, ℕ, length}
+use Rattle.avs_dev.specs.Seen.{Lasts, IsSpared, Fails, IsTold}
+use Rattle.avs_dev.specs.Devices.{OneFails}
+use Rattle.avs_dev.specs.Below.{BelowSeen}
+use Rattle.avs_halves.specs.SetBits.{set_at, disk_at}
+use Rattle.avs_halves.specs.Going.{BelowStays, BelowFailed, SetStays}
+use Rattle.avs_receiver.specs.Held.{ReceiverHeld, ReceiverHalf}
+use Rattle.avs_seg.specs.Image.{block_at}
 
 pub record ReceiverStays (sound : Type 0) (old new : ReceiverHeld) : Type 0 where
   pub host : new.half.host ≡ old.half.host
@@ -28,7 +14,16 @@ pub record ReceiverStays (sound : Type 0) (old new : ReceiverHeld) : Type 0 wher
   pub land : Lasts old.half.land.disk new.half.land.disk
   pub count : length new.half.sets ≡ length old.half.sets
   pub sets : (set : ℕ) → SetStays (set_at old.half.sets set) (set_at new.half.sets set)
+  pub labels : (set : ℕ) → IsTold (disk_at old.half.sets set) → block_at (disk_at new.half.sets set).image 0 ≡ block_at (disk_at old.half.sets set).image 0
   pub below : BelowStays sound old.below new.below
+
+-- what stands in memory of its session: its number, role and direction as they were, this last applied place, and this mark
+pub record SessionStays (old new : ReceiverHalf) (place marked : ℕ) : Type 0 where
+  pub number : new.note.session ≡ old.note.session
+  pub role : new.note.role ≡ old.note.role
+  pub reverse : new.note.reverse ≡ old.note.reverse
+  pub applied : new.applied ≡ place
+  pub mark : new.note.mark ≡ marked
 
 -- no device has failed, and a tear is armed wherever one was
 pub record NoneFailed (old new : ReceiverHeld) : Type 0 where
@@ -37,13 +32,29 @@ pub record NoneFailed (old new : ReceiverHeld) : Type 0 where
   pub sets : (set : ℕ) → IsSpared (disk_at old.half.sets set) (disk_at new.half.sets set)
   pub land : IsSpared old.half.land.disk new.half.land.disk
 
--- a device below has failed, and where all are steady it was by a tear that was armed and is no more
-pub record BelowFailed (old new : BelowSeen) : Type 0 where
-  pub rose : OneRose old.faults new.faults
-  pub spent : IsTrue old.steady → UsesOneTear old.armed new.armed
+-- no device below has failed, and a tear is armed wherever one was
+pub record BelowSpared (old new : BelowSeen) : Type 0 where
+  pub faults : new.faults ≡ old.faults
+  pub armed : new.armed ≡ old.armed
 
--- of all devices one has failed: one below, the disk of a set's bits, or that of the landing volume
+-- of all devices one below has failed
+pub record BelowAloneFailed (old new : ReceiverHeld) : Type 0 where
+  pub failed : BelowFailed old.below new.below
+  pub sets : (set : ℕ) → IsSpared (disk_at old.half.sets set) (disk_at new.half.sets set)
+  pub land : IsSpared old.half.land.disk new.half.land.disk
+
+-- or the disk of a set's bits
+pub record SetAloneFailed (old new : ReceiverHeld) : Type 0 where
+  pub failed : OneFails (disk_at old.half.sets) (disk_at new.half.sets)
+  pub below : BelowSpared old.below new.below
+  pub land : IsSpared old.half.land.disk new.half.land.disk
+
+-- or that of the landing volume
+pub record LandingAloneFailed (old new : ReceiverHeld) : Type 0 where
+  pub failed : Fails old.half.land.disk new.half.land.disk
+  pub below : BelowSpared old.below new.below
+  pub sets : (set : ℕ) → IsSpared (disk_at old.half.sets set) (disk_at new.half.sets set)
+
+-- one device has failed, and every other was spared
 abbrev pub OneFailed : ReceiverHeld → ReceiverHeld → Type 0
-OneFailed old new =
-    BelowFailed old.below new.below
-    ⊎ (OneFails (disk_at old.half.sets) (disk_at new.half.sets) ⊎ Fails old.half.land.disk new.half.land.disk)
+OneFailed old new = BelowAloneFailed old new ⊎ (SetAloneFailed old new ⊎ LandingAloneFailed old new)

@@ -10,3 +10,7 @@ pub mod Writing
 pub mod PartsView
 pub mod Marking
 pub mod Applying
+pub mod CatchingUp
+pub mod Loading
+pub mod Disks
+pub mod Lending

@@ -2,21 +2,10 @@
 use Rattle.std.specs.Prelude.{◌≡◌, ℕ, ◌≤◌, false}
 use Rattle.avs_model.specs.declared.answer.Refusal.{Refusal}
 use Rattle.avs_model.specs.declared.answer.Refusal.TheVariants as refusal
-use Rattle.avs_model.specs.declared.answer.Word.{Word}
-use Rattle.avs_model.specs.declared.answer.Word.TheVariants as word
-use Rattle.avs_model.specs.declared.half.State.{State}
-use Rattle.avs_model.specs.declared.half.State.TheVariants.{Logging, Syncing, Receiving, Replicating, Queuing}
 use Rattle.avs_mirrors.specs.Half.{no_sets}
+use Rattle.avs_halves.specs.Words.{word_of}
 use Rattle.avs_receiver.specs.Held.{ReceiverHeld}
 use Rattle.avs_receiver.specs.Meaning.{receiver_of}
-
--- the word that a state is told by
-abbrev pub word_of : State → Word
-word_of Logging = word.Logging
-word_of Syncing = word.Syncing
-word_of Receiving = word.Receiving
-word_of Replicating = word.Replicating
-word_of Queuing = word.Queuing
 
 -- asked into a session whose number is not greater than its own
 pub record IsNotLater (old : ReceiverHeld) (session : ℕ) (why : Refusal) (new : ReceiverHeld) : Type 0 where

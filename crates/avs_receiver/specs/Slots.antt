@@ -2,7 +2,7 @@
 use Rattle.std.specs.Prelude.{◌≡◌, ◌≢◌, ℕ, ◌<◌, ◌≤◌, true, false, List, length}
 use Rattle.std.specs.Int.{bit_at}
 use Rattle.avs_halves.specs.SetBits.{SetBits, set_at}
-use Rattle.avs_receiver.specs.Meaning.{is_filled}
+use Rattle.avs_halves.specs.Found.{is_filled}
 
 -- the sets are as many as a group may have, each with a slot
 pub record HaveSlots (sets : List SetBits) : Type 0 where

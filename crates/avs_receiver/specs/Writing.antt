@@ -1,5 +1,5 @@
 -- A write of the receiver's own host.
-use Rattle.std.specs.Prelude.{◌≡◌, ◌⊎◌, ℕ, true, false, List, Result, Ok, Err}
+use Rattle.std.specs.Prelude.{◌≡◌, ◌⊎◌, ℕ, Bool, true, false, List, Result, Ok, Err}
 use Rattle.avs_seg.specs.Image.{Image, IsMix, blocks_of}
 use Rattle.avs_model.specs.declared.entry.Entry.{Entry}
 use Rattle.avs_model.specs.declared.answer.Refusal.{Refusal}
@@ -9,7 +9,7 @@ use Rattle.avs_mirrors.specs.Entries.{touches, written}
 use Rattle.avs_mirrors.specs.Half.{HalfState, Sets, is_session, with_bits, with_change, with_write}
 use Rattle.avs_receiver.specs.Held.{ReceiverHeld, ReceiverParts, parts_of}
 use Rattle.avs_receiver.specs.Meaning.{Finds, IsReceiverInStep, StandsFor, receiver_of, state_in}
-use Rattle.avs_receiver.specs.Going.{NoneFailed, OneFailed, ReceiverStays}
+use Rattle.avs_receiver.specs.Going.{NoneFailed, OneFailed, ReceiverStays, SessionStays}
 use Rattle.avs_receiver.specs.Refusing.{HasNoContents, IsWrongState}
 
 -- the half may be written: it is in no session, and the set has contents
@@ -36,6 +36,7 @@ FindsWritten p x e = FindsPartNoted p x e ⊎ FindsTorn p x e
 pub record IsWritten (sound sound_new : Type 0) (old : ReceiverHeld) (e : Entry) (new : ReceiverHeld) : Type 0 where
   pub may : MayWrite old e.set
   pub stays : ReceiverStays sound old new
+  pub session : SessionStays old.half new.half old.half.applied old.half.note.mark
   pub spared : NoneFailed old new
   pub done : IsReceiverInStep sound old → (kept : Sets) → StandsFor new (with_write (receiver_of kept old) e)
   pub step : IsReceiverInStep sound old → IsReceiverInStep sound_new new
@@ -44,6 +45,7 @@ pub record IsWriteStopped (sound : Type 0) (old : ReceiverHeld) (e : Entry) (why
   pub answer : why ≡ refusal.Fault
   pub may : MayWrite old e.set
   pub stays : ReceiverStays sound old new
+  pub session : SessionStays old.half new.half old.half.applied old.half.note.mark
   pub failed : OneFailed old new
   pub stopped : IsReceiverInStep sound old → (kept : Sets) → FindsWritten (parts_of new) (receiver_of kept old) e
 
@@ -59,6 +61,10 @@ pub record IsEmpty (old : ReceiverHeld) (set : ℕ) (why : Refusal) (new : Recei
 abbrev pub Writes : Type 0 → Type 0 → ReceiverHeld → Entry → Result (Unit {0}) Refusal → ReceiverHeld → Type 0
 Writes sound sound_new old e (Ok u) new = IsWritten sound sound_new old e new
 Writes sound sound_new old e (Err why) new = IsInSession old why new ⊎ (IsEmpty old e.set why new ⊎ IsWriteStopped sound old e why new)
+
+-- of what is kept besides below: one write came to it, of a half that may be written; or none did, and it was refused
+abbrev pub RestWritten : {R : Type 0} → ReceiverHeld → ℕ → (R → Type 0) → Bool → R → R → Type 0
+RestWritten old set once ok rest new = ((ok ≡ false) × (new ≡ rest)) ⊎ (MayWrite old set × once new)
 
 -- the write of these bytes
 abbrev pub write_of : ℕ → ℕ → List ℕ → Entry

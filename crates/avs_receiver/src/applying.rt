@@ -11,14 +11,14 @@ ghost use Rattle.avs_receiver.specs.Applying.{Applies, AppliesNext, CanApply, Is
 use crate::half::Half;
 use crate::receiver::Receiver;
 use crate::slots::filled;
-use crate::telling::{receives, state_in, word_of};
+use crate::telling::{receives, state_in};
 use avs_dev::{Below, Disk};
-use avs_halves::write_note;
+use avs_halves::{word_of, write_note};
 use avs_model::{Entry, EntryKind, Refusal, State};
 use avs_seg::Failed;
 use avs_sync::Note;
 
-fn is_mark(kind: EntryKind) -> bool
+pub(crate) fn is_mark(kind: EntryKind) -> bool
     ensures { result ≡ is_mark kind }
 {
     match kind {

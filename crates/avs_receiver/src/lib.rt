@@ -3,10 +3,14 @@
 
 mod applying;
 mod asking;
+mod disks;
 mod half;
 mod leaving;
+mod lending;
+mod loading;
 mod parts;
 mod receiver;
+mod redoing;
 mod slots;
 mod telling;
 mod writing;

@@ -13,8 +13,8 @@ pub struct Receiver<D: Disk, B: Below> {
 }
 
 impl<D: Disk, B: Below> Model for Receiver<D, B> {
+    ghost use Rattle.avs_halves.specs.Over.{IsOver};
     ghost use Rattle.avs_receiver.specs.Held.{ReceiverOf};
-    ghost use Rattle.avs_receiver.specs.Over.{IsOver};
 
     ghost Value = { ReceiverOf B };
 

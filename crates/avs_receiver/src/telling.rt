@@ -2,28 +2,19 @@
 ghost use Rattle.std.specs.Prelude.{◌≡◌, ◌<◌, IfOk, length, filter};
 ghost use Rattle.std.specs.List.{range_with_len};
 ghost use Rattle.avs_mirrors.specs.Due.{has};
-ghost use Rattle.avs_mirrors.specs.Half.{is_receiver, is_session, no_sets};
+ghost use Rattle.avs_mirrors.specs.Half.{is_session, no_sets};
 ghost use Rattle.avs_sync.specs.Machine.{session_of};
 ghost use Rattle.avs_halves.specs.SetBits.{set_at};
 ghost use Rattle.avs_receiver.specs.Held.{seen_of};
 ghost use Rattle.avs_receiver.specs.Meaning.{receiver_of, state_in};
-ghost use Rattle.avs_receiver.specs.Refusing.{word_of};
 
 use crate::receiver::Receiver;
 use avs_dev::{Below, Disk};
-use avs_model::{HalfRole, State, Word};
+use avs_halves::{is_receiver, is_session};
+use avs_model::State;
 use avs_seg::{NoMemory, SegList};
 use avs_sync::{Note, Session};
 use std::alloc::Global;
-
-pub(crate) fn is_receiver(role: HalfRole) -> bool
-    ensures { result ≡ is_receiver role }
-{
-    match role {
-        HalfRole::Receiver => true,
-        HalfRole::Lone | HalfRole::Sender => false,
-    }
-}
 
 // The state of a receiver with this note.
 pub(crate) fn state_in(note: &Note) -> State
@@ -40,22 +31,7 @@ pub(crate) fn state_in(note: &Note) -> State
 pub(crate) fn receives(note: &Note) -> bool
     ensures { result ≡ is_session (state_in note.now) }
 {
-    match state_in(note) {
-        State::Logging => false,
-        State::Syncing | State::Receiving | State::Replicating | State::Queuing => true,
-    }
-}
-
-pub(crate) fn word_of(state: State) -> Word
-    ensures { result ≡ word_of state }
-{
-    match state {
-        State::Logging => Word::Logging,
-        State::Syncing => Word::Syncing,
-        State::Receiving => Word::Receiving,
-        State::Replicating => Word::Replicating,
-        State::Queuing => Word::Queuing,
-    }
+    is_session(state_in(note))
 }
 
 impl<D: Disk, B: Below> Receiver<D, B> {

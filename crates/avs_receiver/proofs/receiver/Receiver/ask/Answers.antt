@@ -1,9 +1,9 @@
 use Rattle.std.proofs.Common.{◌∙◌, inr, ◌<◌, Err, Ok, ap, refl, subst, arith}
 use Rattle.avs_sync.specs.declared.note.Note.{Note}
 use Rattle.avs_halves.specs.Writing.{PutsNote}
+use Rattle.avs_halves.proofs.Staying.{over_sizes}
 use Rattle.avs_receiver.specs.Held.{half_noted}
 use Rattle.avs_receiver.proofs.Askings.{is_asked, is_not_asked}
-use Rattle.avs_receiver.proofs.Stopped.{over_sizes}
 use Rattle.avs_receiver.proofs.receiver.Receiver.ask.Goals as goal
 
 pub returns-in-Err-clause-asks : goal.returns-in-Err-clause-asks

@@ -1,8 +1,8 @@
 use Rattle.std.proofs.Common.{rules, ◌≡◌, sym, subst}
 use Rattle.avs_mirrors.specs.Half.{left_receiver}
+use Rattle.avs_halves.specs.Over.{IsOver}
 use Rattle.avs_receiver.specs.Held.{ReceiverOf, ReceiverParts, parts_of, seen_of}
 use Rattle.avs_receiver.specs.Meaning.{Finds, receiver_of}
-use Rattle.avs_receiver.specs.Over.{IsOver}
 use Rattle.avs_receiver.specs.PartsView.{seen_parts}
 use Rattle.avs_receiver.proofs.Meanings.{finds_left}
 use Rattle.avs_receiver.proofs.receiver.Receiver.into_parts.Goals as goal

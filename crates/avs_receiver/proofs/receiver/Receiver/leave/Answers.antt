@@ -1,9 +1,9 @@
 use Rattle.std.proofs.Common.{◌≡◌, true, arith}
 use Rattle.std.proofs.lemmas.Result.{err_from_is_err_and}
 use Rattle.avs_mirrors.specs.Half.{is_session}
+use Rattle.avs_halves.proofs.Staying.{over_sizes}
 use Rattle.avs_receiver.specs.Meaning.{state_in}
 use Rattle.avs_receiver.proofs.Leavings.{leaves_err, session_not}
-use Rattle.avs_receiver.proofs.Stopped.{over_sizes}
 use Rattle.avs_receiver.proofs.receiver.Receiver.leave.Goals as goal
 
 pub returns-in_err-write_note-clause-leaves : goal.returns-in_err-write_note-clause-leaves

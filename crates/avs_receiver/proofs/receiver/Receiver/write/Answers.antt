@@ -1,7 +1,8 @@
 use Rattle.std.proofs.Common.{◌≡◌, inl, inr, true, false, refl, arith}
 use Rattle.avs_mirrors.specs.Half.{is_session}
 use Rattle.avs_halves.specs.SetBits.{set_at}
-use Rattle.avs_receiver.specs.Meaning.{is_filled, state_in}
+use Rattle.avs_halves.specs.Found.{is_filled}
+use Rattle.avs_receiver.specs.Meaning.{state_in}
 use Rattle.avs_receiver.proofs.Written.{is_written}
 use Rattle.avs_receiver.proofs.Stopped.{stopped_below, stopped_in_bits, not_err}
 use Rattle.avs_receiver.proofs.receiver.Receiver.write.Goals as goal
