@@ -114,3 +114,12 @@ module _ {T' E' : Type 0} (first second : Keys) (on : Bool) (a b c : List SetBit
     done = tt;
     failed = fails_both q.failed;
   }
+
+-- what stopped in some segments stopped in more
+pub changes_wider : {T E : Type 0} (keys more : Keys) (on : Bool) (a b : List SetBits) (e : E) → ((set seg : ℕ) → keys set seg ≡ true → more set seg ≡ true) → ChangesSets {T = T} keys on a (Err e) b → ChangesSets {T = T} more on a (Err e) b
+changes_wider keys more on a b e wider c = record {
+  count = c.count;
+  part = λ set. made_wider (keys set) (more set) on (set_at a set) (set_at b set) (wider set) (c.part set);
+  done = tt;
+  failed = c.failed;
+}

@@ -18,21 +18,17 @@ use Rattle.avs_sync.specs.Session.{left}
 use Rattle.avs_sync.specs.declared.note.Note.{Note}
 use Rattle.avs_halves.specs.SetBits.{has_bit, set_at}
 use Rattle.avs_halves.specs.Writing.{PutsNote}
+use Rattle.avs_halves.specs.Over.{IsOver}
+use Rattle.avs_halves.specs.Found.{stored_bytes}
+use Rattle.avs_halves.proofs.Staying.{below_noted, below_same, may_leave, over_sizes, told_note}
 use Rattle.avs_sender.specs.Held.{SenderHalf, SenderHeld, SenderOf, SenderParts, held, parts_of, seen_of}
 use Rattle.avs_sender.specs.Kept.{IsKept}
-use Rattle.avs_sender.specs.Meaning.{IsSenderInStep, due_of, places_at, waits, sender_of, found_again, found_by, found_of, stored_bytes}
-use Rattle.avs_sender.specs.Over.{IsOver}
-use Rattle.avs_sender.specs.Going.{BelowStays, SenderStays, NoneFailed}
+use Rattle.avs_sender.specs.Meaning.{IsSenderInStep, due_of, places_at, waits, sender_of, found_again, found_by, found_of}
+use Rattle.avs_sender.specs.Going.{SenderStays, NoneFailed}
 use Rattle.avs_sender.specs.Leaving.{Leaves, half_left, left_note, known_mark}
-use Rattle.avs_sender.proofs.Meanings.{again_is, bits_due, found_is, same_images, told_note, zeros_are}
+use Rattle.avs_sender.proofs.Meanings.{again_is, bits_due, found_is, same_images, zeros_are}
 
 -- ---- a call that does nothing
-
-pub none_fell : (faults : List ℕ) → NoneFell faults faults
-none_fell faults = record { same_length = refl; each = λ i. omega arith }
-
-pub below_same : (sound : Type 0) (below : BelowSeen) → BelowStays sound below below
-below_same sound below = record { sizes = refl; steady = refl; told = λ s vol told. told; noted = λ told. told; faults = none_fell below.faults }
 
 pub stays_same : (sound : Type 0) (h : SenderHeld) → SenderStays sound h h
 stays_same sound h = record {
@@ -82,15 +78,6 @@ leaves_nothing sound below h u off = record {
 
 -- ---- by a note
 
-stays_noted : {T E : Type 0} (sound : Type 0) (old new : BelowSeen) (bytes : List ℕ) (result : Result T E) → SetsNote sound old bytes result new → BelowStays sound old new
-stays_noted sound old new bytes result w = record {
-  sizes = w.sizes;
-  steady = w.steady;
-  told = λ s vol told. subst (λ (images : List Image). length (get_or images vol []) ≡ get_or new.sizes vol 0) (sym (w.images s)) (subst (λ (sizes : List ℕ). length (get_or old.images vol []) ≡ get_or sizes vol 0) (sym w.sizes) told);
-  noted = w.told;
-  faults = w.cause.later;
-}
-
 left_done : (below new : BelowSeen) (h : SenderHalf) (mark : ℕ) (q : Queue) → new.images ≡ below.images → sender_of (held new (half_left h mark q)) ≡ left_sender (sender_of (held below h))
 left_done below new h mark q images = λ i. record (left_sender (sender_of (held below h))) { images = same_images h.sets new.images below.images images i; due = sym (zeros_are h) i }
 
@@ -104,7 +91,7 @@ leaves_ok sound sound_new below new h mark q u on limits p sounds = record {
     limits = limits;
     count = refl;
     sets = λ set. record { vol = refl; slot = refl; segs = refl; disk = lasts_same (set_at h.sets set).bits.disk };
-    below = stays_noted sound below new p.bytes (Ok u) p.sets;
+    below = below_noted sound below new p.bytes (Ok u) p.sets;
   };
   spared = record { faults = p.sets.cause.same; armed = p.sets.still_armed; sets = λ set. spared_same (set_at h.sets set).bits.disk };
   failed = tt;
@@ -114,7 +101,7 @@ leaves_ok sound sound_new below new h mark q u on limits p sounds = record {
     sound = sounds st.sound;
     stored = p.sets.stored (told_note below below.note st.stored) ∙ ap Some (sym p.sets.done);
     note = subst (λ (bytes : List ℕ). IsNote bytes (record h.note { state = Logging; mark = mark })) (sym p.sets.done) p.is;
-    volumes = λ set there. (stays_noted sound below new p.bytes (Ok u) p.sets).told st.sound (set_at h.sets set).vol (st.volumes set there);
+    volumes = λ set there. (below_noted sound below new p.bytes (Ok u) p.sets).told st.sound (set_at h.sets set).vol (st.volumes set there);
     bits = st.bits;
   };
   stopped = λ st. tt;
@@ -122,17 +109,7 @@ leaves_ok sound sound_new below new h mark q u on limits p sounds = record {
 }
 
 -- where that fails, the note is the old or the new one
-pub over_noted : (below new : BelowSeen) (h : SenderHalf) → new.sizes ≡ below.sizes → IsOver below h → IsOver new h
-over_noted below new h sizes over = record {
-  each = λ set there. let v = over.each set there in record {
-    there = rw sizes v.there;
-    small = rw sizes v.small;
-    segs = rw sizes v.segs;
-  };
-  apart = over.apart;
-}
-
-pub leaves_err : {T E : Type 0} (sound sound_new : Type 0) (below new : BelowSeen) (h : SenderHalf) (mark : ℕ) (e : E) → is_session h.session.state ≡ true → h.session.number ≡ h.note.session → IsOver below h
+pub leaves_err : {T E : Type 0} (sound sound_new : Type 0) (below new : BelowSeen) (h : SenderHalf) (mark : ℕ) (e : E) → is_session h.session.state ≡ true → h.session.number ≡ h.note.session → IsOver below h.sets
     → PutsNote {T = T} sound below (record h.note { state = Logging; mark = mark }) (Err e) new
     → Leaves {T = T} sound sound_new (held below h) (Err e) (held new h)
 leaves_err sound sound_new below new h mark e on number over p = record {
@@ -142,7 +119,7 @@ leaves_err sound sound_new below new h mark e on number over p = record {
     limits = refl;
     count = refl;
     sets = λ set. record { vol = refl; slot = refl; segs = refl; disk = lasts_same (set_at h.sets set).bits.disk };
-    below = stays_noted sound below new p.bytes (Err e) p.sets;
+    below = below_noted sound below new p.bytes (Err e) p.sets;
   };
   spared = tt;
   failed = record { rose = p.sets.cause.failed; spent = p.sets.spent };
@@ -154,20 +131,20 @@ leaves_err sound sound_new below new h mark e on number over p = record {
 }
   where
     by : IsSenderInStep sound (held below h) → (n : Note) → n.session ≡ h.note.session → n.role ≡ h.note.role → n.empty ≡ h.note.empty → note_at (stored_bytes new) ≡ n → found_again (parts_of (held new h)) ≡ found_of (sender_of (held below h))
-    by st n session role empty is = ap (λ (m : Note). found_by m (parts_of (held new h))) is ∙ found_is below new h n (session ∙ sym number) role empty (p.sets.images st.sound) st.bits (over_noted below new h p.sets.sizes over)
+    by st n session role empty is = ap (λ (m : Note). found_by m (parts_of (held new h))) is ∙ found_is below new h n (session ∙ sym number) role empty (p.sets.images st.sound) st.bits (over_sizes below new h.sets p.sets.sizes over)
 
     stopped : IsSenderInStep sound (held below h) → (new.stored ≡ below.stored) ⊎ (new.stored ≡ Some p.bytes) → found_again (parts_of (held new h)) ≡ found_of (sender_of (held below h))
     stopped st (inl same) = by st h.note refl refl refl (again_is new below.note h.note (same ∙ st.stored) st.note)
     stopped st (inr put) = by st (record h.note { state = Logging; mark = mark }) refl refl refl (again_is new p.bytes (record h.note { state = Logging; mark = mark }) put p.is)
 
 -- a half in step is found as having left
-pub found_left : (sound : Type 0) (below : BelowSeen) (h : SenderHalf) → h.session.number ≡ h.note.session → IsOver below h → IsSenderInStep sound (held below h) → found_again (parts_of (held below h)) ≡ found_of (sender_of (held below h))
+pub found_left : (sound : Type 0) (below : BelowSeen) (h : SenderHalf) → h.session.number ≡ h.note.session → IsOver below h.sets → IsSenderInStep sound (held below h) → found_again (parts_of (held below h)) ≡ found_of (sender_of (held below h))
 found_left sound below h number over st =
     ap (λ (m : Note). found_by m (parts_of (held below h))) (again_is below below.note h.note st.stored st.note)
     ∙ found_is below below h h.note (sym number) refl refl refl st.bits over
 
 -- the parts of a sender in step are those of a half that has left
-pub found_parts : {B : Type 0} (seen : B → BelowSeen) (sound : B → Type 0) (below : B) (inside h : SenderHalf) (s : SenderOf B) (p : SenderParts) → inside ≡ h → record { below = below; half = h } ≡ s → IsKept inside → IsOver (seen below) h
+pub found_parts : {B : Type 0} (seen : B → BelowSeen) (sound : B → Type 0) (below : B) (inside h : SenderHalf) (s : SenderOf B) (p : SenderParts) → inside ≡ h → record { below = below; half = h } ≡ s → IsKept inside → IsOver (seen below) h.sets
     → p ≡ parts_of (held (seen below) inside) → IsSenderInStep (sound s.below) (seen_of seen s) → found_again p ≡ found_of (sender_of (seen_of seen s))
 found_parts {B = B} seen sound below inside h s p half is kept over same =
     subst (λ (t : SenderOf B). IsSenderInStep (sound t.below) (seen_of seen t) → found_again p ≡ found_of (sender_of (seen_of seen t))) is
@@ -175,11 +152,6 @@ found_parts {B = B} seen sound below inside h s p half is kept over same =
     ∙ found_left (sound below) (seen below) h (subst (λ (x : SenderHalf). x.session.number ≡ x.note.session) half kept.session.number) over step)
 
 -- the note with which a half leaves keeps the rules of notes
-any_logging : (r : HalfRole) → may_be r Logging ≡ true
-any_logging Lone = refl
-any_logging Sender = refl
-any_logging Receiver = refl
-
 mark_small : (b : Bool) (mark : ℕ) → mark ≤ 2 ^ 62 → cond b mark 0 ≤ 2 ^ 62
 mark_small true mark le = le
 mark_small false mark le = omega arith
@@ -187,13 +159,13 @@ mark_small false mark le = omega arith
 pub left_keeps : (h : SenderHalf) → IsKept h → NoteKeeps (left_note h.note (known_mark h.session))
 left_keeps h kept = record {
   session = kept.note.session;
-  state = any_logging h.note.role;
+  state = may_leave h.note.role;
   mark = mark_small (nat_le h.session.mark h.session.known) h.session.mark kept.session.mark;
 }
 
 -- a leaving that failed
 pub leaves_stopped : {B T E : Type 0} (seen : B → BelowSeen) (sound : B → Type 0) (below new : B) (h : SenderHalf) (s : SenderOf B) (n : Note) (r : Result T E) (e : E)
-    → record { below = below; half = h } ≡ s → r ≡ Err e → n ≡ left_note h.note (known_mark h.session) → is_session h.session.state ≡ true → IsKept h → IsOver (seen below) h
+    → record { below = below; half = h } ≡ s → r ≡ Err e → n ≡ left_note h.note (known_mark h.session) → is_session h.session.state ≡ true → IsKept h → IsOver (seen below) h.sets
     → PutsNote {T = T} (sound below) (seen below) n (Err e) (seen new)
     → Leaves (sound s.below) (sound new) (seen_of seen s) r (held (seen new) h)
 leaves_stopped {B = B} {T = T} {E = E} seen sound below new h s n r e is failed note on kept over p =

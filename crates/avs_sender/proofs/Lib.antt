@@ -3,3 +3,10 @@ pub mod Changes
 pub mod Leavings
 pub mod Loadings
 pub mod Askings
+pub mod Freeings
+pub mod FreedSets
+pub mod Cleared
+pub mod Learned
+pub mod Founds
+pub mod Tickings
+pub mod Noted

@@ -19,13 +19,15 @@ use Rattle.avs_sync.proofs.Notes.{note_at-is}
 use Rattle.avs_dev.specs.Seen.{Seen}
 use Rattle.avs_halves.specs.SetBits.{SetBits, AreInStep, set_at, part_of, no_set, no_part, disk_at}
 use Rattle.avs_halves.specs.Loading.{OpensSet}
+use Rattle.avs_halves.specs.Over.{IsOver}
+use Rattle.avs_halves.specs.Found.{part_at}
+use Rattle.avs_halves.proofs.Lying.{loaded_count, loaded_over, loaded_part, loaded_set}
 use Rattle.avs_sender.specs.Held.{SenderHalf, SenderParts, SetPlaces, held, parts_of}
 use Rattle.avs_sender.specs.Kept.{IsKept, ArePlacesOf}
-use Rattle.avs_sender.specs.Meaning.{no_places, part_at, sender_of, found_by, found_of}
-use Rattle.avs_sender.specs.Over.{IsOver}
+use Rattle.avs_sender.specs.Meaning.{no_places, sender_of, found_by, found_of}
 use Rattle.avs_sender.specs.Places.{no_places_for}
 use Rattle.avs_sender.specs.Loading.{IsLoadable, AreToldParts, OpensHalf, Loads, found_session}
-use Rattle.avs_sender.proofs.Meanings.{found_is, part_is, zeros_are}
+use Rattle.avs_sender.proofs.Meanings.{found_is, zeros_are}
 
 -- the half that is made of sets as they were found
 abbrev pub half_found : Host → Seen → Note → List SetBits → List SetPlaces → Queue → SenderHalf
@@ -36,23 +38,16 @@ module _ (p : SenderParts) (limits : Limits) (n : Note) (sets : List SetBits) (p
   h = half_found p.host p.land n sets places queue
 
   count : length sets ≡ length p.sets
-  count = sym (length-map sets part_of) ∙ ap (λ (l : List MirrorSet). length l) o.sets_are.as_found
+  count = loaded_count p.below p.sets sets o.sets_are
 
-  part_found : (set : ℕ) → part_at p set ≡ part_of (set_at sets set)
-  part_found set = ap (λ (l : List MirrorSet). get_or l set no_part) (sym o.sets_are.as_found) ∙ part_is sets set
+  part_found : (set : ℕ) → part_at p.sets set ≡ part_of (set_at sets set)
+  part_found set = loaded_part p.below p.sets sets o.sets_are set
 
   opened : (set : ℕ) → set < length sets → OpensSet p.below.sizes (part_of (set_at sets set)) (set_at sets set)
-  opened set there = All-get_or (λ s. OpensSet p.below.sizes (part_of s) s) sets set no_set there o.sets_are.each
+  opened set there = loaded_set p.below p.sets sets o.sets_are set there
 
-  pub over : IsOver p.below (half_found p.host p.land n sets places queue)
-  over = record {
-    each = λ set there. let own = loadable.own set (omega (arith, there, count)) in record {
-      there = subst (λ (m : MirrorSet). m.vol < length p.below.sizes) (part_found set) own.there;
-      small = subst (λ (m : MirrorSet). size_of p.below m.vol ≤ 2 ^ 31) (part_found set) own.small;
-      segs = (opened set there).segs;
-    };
-    apart = λ set other there also same. (loadable.own set (omega (arith, there, count))).volume other (omega (arith, also, count)) (ap (λ (m : MirrorSet). m.vol) (part_found other) ∙ same ∙ ap (λ (m : MirrorSet). m.vol) (sym (part_found set)));
-  }
+  pub over : IsOver p.below sets
+  over = loaded_over p.below p.sets sets o.sets_are loadable
 
   in_step : AreToldParts p → AreInStep sets
   in_step told = record { told = told_at; step = step_at }
@@ -131,4 +126,5 @@ module _ (p : SenderParts) (limits : Limits) (n : Note) (sets : List SetBits) (p
       idle = λ received. refl;
     };
     sends = λ on. absurd (cc);
+    away = λ off. o.queue_is.none;
   }

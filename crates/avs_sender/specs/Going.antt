@@ -1,26 +1,10 @@
 -- What every call leaves of a sender, and when it may fail.
-use Rattle.std.specs.Prelude.{◌≡◌, ◌⊎◌, ℕ, length, IsTrue}
-use Rattle.avs_dev.specs.Seen.{Lasts, IsSpared}
-use Rattle.avs_dev.specs.Devices.{NoneFell, OneRose, UsesOneTear, OneFails}
-use Rattle.avs_dev.specs.Below.{BelowSeen, IsToldAt, IsNoteTold}
-use Rattle.avs_halves.specs.SetBits.{SetBits, set_at, disk_at}
+use Rattle.std.specs.Prelude.{◌≡◌, ◌⊎◌, ℕ, length}
+use Rattle.avs_dev.specs.Seen.{IsSpared}
+use Rattle.avs_dev.specs.Devices.{OneFails}
+use Rattle.avs_halves.specs.SetBits.{set_at, disk_at}
+use Rattle.avs_halves.specs.Going.{BelowStays, BelowFailed, SetStays}
 use Rattle.avs_sender.specs.Held.{SenderHeld}
-
--- of what lies below: its volumes are as large, those that tell their blocks tell them where it was sound, and no count of faults has
--- fallen
-pub record BelowStays (sound : Type 0) (old new : BelowSeen) : Type 0 where
-  pub sizes : new.sizes ≡ old.sizes
-  pub steady : new.steady ≡ old.steady
-  pub told : sound → (vol : ℕ) → IsToldAt old vol → IsToldAt new vol
-  pub noted : IsNoteTold old → IsNoteTold new
-  pub faults : NoneFell old.faults new.faults
-
--- of a set: its volume, its slot, its size, and its disk
-pub record SetStays (old new : SetBits) : Type 0 where
-  pub vol : new.vol ≡ old.vol
-  pub slot : new.slot ≡ old.slot
-  pub segs : new.bits.segs ≡ old.bits.segs
-  pub disk : Lasts old.bits.disk new.bits.disk
 
 pub record SenderStays (sound : Type 0) (old new : SenderHeld) : Type 0 where
   pub host : new.half.host ≡ old.half.host
@@ -35,11 +19,6 @@ pub record NoneFailed (old new : SenderHeld) : Type 0 where
   pub faults : new.below.faults ≡ old.below.faults
   pub armed : new.below.armed ≡ old.below.armed
   pub sets : (set : ℕ) → IsSpared (disk_at old.half.sets set) (disk_at new.half.sets set)
-
--- a device below has failed, and where all are steady it was by a tear that was armed and is no more
-pub record BelowFailed (old new : BelowSeen) : Type 0 where
-  pub rose : OneRose old.faults new.faults
-  pub spent : IsTrue old.steady → UsesOneTear old.armed new.armed
 
 -- of all devices one has failed: one below, or the disk of a set's bits
 abbrev pub OneFailed : SenderHeld → SenderHeld → Type 0

@@ -1,5 +1,5 @@
 -- What the memory of a sender keeps.
-use Rattle.std.specs.Prelude.{◌≡◌, ℕ, ◌+◌, ◌-◌, ◌^◌, ◌<◌, ◌≤◌, true, false, not, List, length, All}
+use Rattle.std.specs.Prelude.{◌≡◌, ℕ, ◌+◌, ◌-◌, ◌^◌, ◌<◌, ◌≤◌, true, false, not, List, [], length, All}
 use Rattle.avs_refs.specs.Places.{IsAbove, IsDrained, greatest_at}
 use Rattle.avs_mqueue.specs.Queue.{Queue, next_place}
 use Rattle.avs_model.specs.declared.half.HalfRole.TheVariants.{Sender}
@@ -69,3 +69,4 @@ pub record IsKept (h : SenderHalf) : Type 0 where
   pub fits : NoteFits h.note
   pub session : IsSessionOf h.note h.session
   pub sends : is_session h.session.state ≡ true → IsInSession h
+  pub away : is_session h.session.state ≡ false → h.queue.entries ≡ []

@@ -6,14 +6,10 @@ use Rattle.avs_sync.specs.Session.{left}
 use Rattle.avs_sync.specs.declared.session.Session.{Session}
 use Rattle.avs_mqueue.specs.Queue.{Queue}
 use Rattle.avs_sync.specs.declared.note.Note.{Note}
+use Rattle.avs_halves.specs.Going.{BelowFailed, DidNothing}
 use Rattle.avs_sender.specs.Held.{SenderHalf, SenderHeld, parts_of}
 use Rattle.avs_sender.specs.Meaning.{IsSenderInStep, sender_of, found_of, found_again}
-use Rattle.avs_sender.specs.Going.{SenderStays, NoneFailed, BelowFailed}
-
--- nothing was done, and the answer is Ok
-pub record DidNothing {T E : Type 0} (old : SenderHeld) (result : Result T E) (new : SenderHeld) : Type 0 where
-  pub answer : IsOk result
-  pub kept : new ≡ old
+use Rattle.avs_sender.specs.Going.{SenderStays, NoneFailed}
 
 -- it leaves by one note, unless it is in logging. Where that fails, it is found as having left too
 pub record Leaves {T E : Type 0} (sound sound_new : Type 0) (old : SenderHeld) (result : Result T E) (new : SenderHeld) : Type 0 where

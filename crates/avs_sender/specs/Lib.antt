@@ -1,7 +1,6 @@
 pub mod Held
 pub mod Meaning
 pub mod Kept
-pub mod Over
 pub mod Going
 pub mod Leaving
 pub mod Places
@@ -9,3 +8,7 @@ pub mod PartsView
 pub mod Loading
 pub mod SenderView
 pub mod Asking
+pub mod Waits
+pub mod Freeing
+pub mod Learning
+pub mod Ticking

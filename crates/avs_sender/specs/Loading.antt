@@ -1,7 +1,7 @@
 -- How a sender is found on its parts.
-use Rattle.std.specs.Prelude.{◌≡◌, ◌⊎◌, ℕ, ◌<◌, ◌≤◌, ◌^◌, not, List, [], length, map, Some, Result, Ok, Err}
+use Rattle.std.specs.Prelude.{◌≡◌, ◌⊎◌, ℕ, ◌<◌, not, List, [], length, map, Some, Result, Ok, Err}
 use Rattle.avs_dev.specs.Seen.{IsTold}
-use Rattle.avs_dev.specs.Below.{BelowSeen, IsToldAt, size_of}
+use Rattle.avs_dev.specs.Below.{BelowSeen, IsToldAt}
 use Rattle.avs_dev.specs.declared.back.Why.{Why}
 use Rattle.avs_dev.specs.declared.back.Why.TheVariants.{BadRecord, NoMemory}
 use Rattle.avs_code.specs.Rules.{first_broken}
@@ -14,28 +14,20 @@ use Rattle.avs_sync.specs.declared.note.Note.{Note}
 use Rattle.avs_sync.specs.declared.session.Session.{Session}
 use Rattle.avs_halves.specs.SetBits.{SetBits}
 use Rattle.avs_halves.specs.Loading.{LoadsSets, SetsRefused}
+use Rattle.avs_halves.specs.Found.{part_at}
+use Rattle.avs_halves.specs.Over.{AreLoadable}
 use Rattle.avs_sender.specs.Held.{SenderHeld, SenderParts, SetPlaces, parts_of}
-use Rattle.avs_sender.specs.Meaning.{IsSenderInStep, sender_of, found_on, part_at}
+use Rattle.avs_sender.specs.Meaning.{IsSenderInStep, sender_of, found_on}
 use Rattle.avs_sender.specs.Places.{PlacesFor}
 
--- a set has a volume of its own, and a slot of its own
-pub record HasOwn (p : SenderParts) (set : ℕ) : Type 0 where
-  pub there : (part_at p set).vol < length p.below.sizes
-  pub small : size_of p.below (part_at p set).vol ≤ 2 ^ 31
-  pub slot : (part_at p set).slot < 16
-  pub volume : (other : ℕ) → other < length p.sets → (part_at p other).vol ≡ (part_at p set).vol → other ≡ set
-  pub slots : (other : ℕ) → other < length p.sets → (part_at p other).slot ≡ (part_at p set).slot → other ≡ set
-
--- there are sets, as many as a group may have, each with a volume and a slot
-pub record IsLoadable (p : SenderParts) : Type 0 where
-  pub some : 0 < length p.sets
-  pub few : length p.sets ≤ 16
-  pub own : (set : ℕ) → set < length p.sets → HasOwn p set
+-- its sets may be loaded
+abbrev pub IsLoadable : SenderParts → Type 0
+IsLoadable p = AreLoadable p.below p.sets
 
 -- the disks tell what is on them, and the note is the one on its disk
 pub record AreToldParts (p : SenderParts) : Type 0 where
-  pub bits : (set : ℕ) → IsTold (part_at p set).bits
-  pub volumes : (set : ℕ) → set < length p.sets → IsToldAt p.below (part_at p set).vol
+  pub bits : (set : ℕ) → IsTold (part_at p.sets set).bits
+  pub volumes : (set : ℕ) → set < length p.sets → IsToldAt p.below (part_at p.sets set).vol
   pub stored : p.below.stored ≡ Some p.below.note
 
 -- what the note below is

@@ -1,20 +1,15 @@
 -- What a sender stands for, as a half of the machine of two halves; and what is found where it is loaded.
-use Rattle.std.specs.Prelude.{◌≡◌, ℕ, ◌<◌, ◌==◌, ◌&&◌, not, nat_lt, nat_le, Bool, false, if◌then◌else◌, List, [], length, None, Some, slice_index_or}
-use Rattle.std.specs.Int.{bit_at}
-use Rattle.std.specs.Option.{option_map_or}
-use Rattle.avs_seg.specs.Segment.{seg_count}
-use Rattle.avs_dev.specs.Below.{BelowSeen, IsToldAt, image_of, size_of}
-use Rattle.avs_bits.specs.Bit.{disk_bit}
-use Rattle.avs_bits.specs.BitSet.{place}
+use Rattle.std.specs.Prelude.{◌≡◌, ℕ, ◌<◌, ◌==◌, ◌&&◌, nat_lt, nat_le, Bool, false, if◌then◌else◌, [], length, None, Some, slice_index_or}
+use Rattle.avs_dev.specs.Below.{IsToldAt, image_of}
 use Rattle.avs_refs.specs.Places.{greatest_at}
 use Rattle.avs_mirrors.specs.Entries.{Images}
 use Rattle.avs_mirrors.specs.Due.{Due}
 use Rattle.avs_mirrors.specs.Half.{HalfState, Sets, Logging, no_sets, is_session, left_sender, forgotten}
 use Rattle.avs_sync.specs.Note.{IsNote, note_at}
-use Rattle.avs_sync.specs.Parts.{MirrorSet}
 use Rattle.avs_sync.specs.declared.note.Note.{Note}
 use Rattle.avs_sync.specs.declared.session.Session.{Session}
-use Rattle.avs_halves.specs.SetBits.{AreInStep, set_at, has_bit, no_part}
+use Rattle.avs_halves.specs.SetBits.{AreInStep, set_at, has_bit}
+use Rattle.avs_halves.specs.Found.{due_found, is_filled, part_at, stored_bytes}
 use Rattle.avs_sender.specs.Held.{SetPlaces, SenderHalf, SenderHeld, SenderParts}
 
 -- ---- in memory
@@ -48,10 +43,6 @@ has_set h set = nat_lt set (length h.sets)
 abbrev pub images_of : SenderHeld → Images
 images_of h set = if has_set h.half set then image_of h.below (set_at h.half.sets set).vol else []
 
--- a slot is not one of those without contents
-abbrev pub is_filled : ℕ → ℕ → Bool
-is_filled empty slot = not (bit_at empty slot == 1)
-
 abbrev pub contents_of : SenderHalf → Sets
 contents_of h set = has_set h set && is_filled h.note.empty (set_at h.sets set).slot
 
@@ -80,24 +71,14 @@ is_given s place = nat_lt 0 place && nat_le place s.last
 
 -- ---- on disks
 
-abbrev pub part_at : SenderParts → ℕ → MirrorSet
-part_at p set = slice_index_or p.sets set no_part
-
 abbrev pub has_part : SenderParts → Sets
 has_part p set = nat_lt set (length p.sets)
 
--- whether the disk of a set's bits has one for a segment of its volume
-abbrev pub bit_found : SenderParts → ℕ → ℕ → Bool
-bit_found p set seg = has_part p set && nat_lt seg (seg_count (size_of p.below (part_at p set).vol)) && disk_bit (part_at p set).bits.image (place seg)
-
-abbrev pub due_found : SenderParts → Due
-due_found p set seg = if bit_found p set seg then Some 0 else None
-
 abbrev pub images_found : SenderParts → Images
-images_found p set = if has_part p set then image_of p.below (part_at p set).vol else []
+images_found p set = if has_part p set then image_of p.below (part_at p.sets set).vol else []
 
 abbrev pub contents_found : SenderParts → Note → Sets
-contents_found p n set = has_part p set && is_filled n.empty (part_at p set).slot
+contents_found p n set = has_part p set && is_filled n.empty (part_at p.sets set).slot
 
 -- the half that is found on parts, where the note is this one: in logging, whatever state the note says, with nothing placed and
 -- nothing known
@@ -114,7 +95,7 @@ found_by n p = record {
   known = 0;
   taken = 0;
   applied = 0;
-  due = due_found p;
+  due = due_found p.below p.sets;
   held = [];
   kept = no_sets;
 }
@@ -124,9 +105,6 @@ abbrev pub found_on : SenderParts → HalfState
 found_on p = found_by (note_at p.below.note) p
 
 -- and where that which lies below is loaded again: by the note that lies on its disk
-abbrev pub stored_bytes : BelowSeen → List ℕ
-stored_bytes below = option_map_or (λ bytes. bytes) below.stored below.note
-
 abbrev pub found_again : SenderParts → HalfState
 found_again p = found_by (note_at (stored_bytes p.below)) p
 

@@ -3,4 +3,4 @@ use Rattle.avs_sender.specs.declared.tracked.Tracked.{Tracked}
 use Rattle.avs_sender.specs.Held.{SetPlaces}
 
 abbrev pub set_places : Tracked → SetPlaces
-set_places t = record { touched = t.touched; waiting = t.waiting.items }
+set_places t = record { touched = t.touched; waiting = t.waiting }

@@ -2,9 +2,12 @@
 #![tactic(auto)]
 
 mod asking;
+mod freeing;
 mod half;
 mod sender;
+mod ticking;
 mod tracked;
+mod waiting;
 
 pub use asking::Settled;
 pub use sender::Sender;

@@ -13,12 +13,12 @@ pub struct Sender<D: Disk, B: Below> {
 }
 
 impl<D: Disk, B: Below> Model for Sender<D, B> {
+    ghost use Rattle.avs_halves.specs.Over.{IsOver};
     ghost use Rattle.avs_sender.specs.Held.{SenderOf};
-    ghost use Rattle.avs_sender.specs.Over.{IsOver};
 
     ghost Value = { SenderOf B };
 
     ghost view = { λ s. record { below = s.below; half = s.half } };
 
-    ghost invariant = { λ s. IsOver (B.seen s.below) s.half };
+    ghost invariant = { λ s. IsOver (B.seen s.below) s.half.sets };
 }
