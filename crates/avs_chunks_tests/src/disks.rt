@@ -1,9 +1,8 @@
 // Disks that are taken, given back and refused.
 
-use crate::plain::BLOCKS;
 use crate::sets::{
-    again, bitmap_blocks, copy, disk, give, has, made, moved_part, put_blocks, same, sees, sizes,
-    write,
+    BLOCKS, again, bitmap_blocks, copy, disk, give, has, made, moved_part, put_blocks, same, sees,
+    sizes, write,
 };
 use avs_chunks::Chunks;
 use avs_dev::{Arm, Back, Closed2, Disk, MemDisk, Tear, Why};
@@ -174,5 +173,36 @@ fn a_set_that_is_made_in_part_is_found_by_its_label(rt: HostRuntime) {
         (2, 1, true),
     ] {
         same(&rt, torn_make(&rt, rt.alloc(), skip, count), want);
+    }
+}
+
+fn present(rt: &impl Abort, found: Result<Chunks<MemDisk>, Closed2<MemDisk>>) -> Chunks<MemDisk> {
+    match found {
+        Ok(set) => set,
+        Err(_) => panic!(rt; "a set"),
+    }
+}
+
+// Its states in memory are those of a new set, and those on its disk are what they were.
+#[test]
+fn a_set_is_found_without_its_states(rt: HostRuntime) {
+    let alloc = rt.alloc();
+    let mut master = disk(&rt, alloc, BLOCKS, &[]);
+    let mut set = settled(&rt, alloc, &mut master);
+    let shadow = take(&rt, &mut set);
+    let (_, bitmap) = set.into_disks();
+    let set = present(&rt, Chunks::found(alloc, Kind::Ind, shadow, bitmap, BLOCKS));
+    same(&rt, sizes(&set), (3, 0, 0));
+    same(&rt, set.written(1), Some(6));
+    same(&rt, sizes(&again(&rt, alloc, set, false)), (0, 0, 1));
+}
+
+#[test]
+fn a_set_is_not_found_on_disks_that_are_small(rt: HostRuntime) {
+    for (blocks, states, need, have) in [(135, 3, 136, 135), (136, 2, 3, 2)] {
+        let shadow = disk(&rt, rt.alloc(), blocks, &[]);
+        let bitmap = disk(&rt, rt.alloc(), states, &[]);
+        let found = Chunks::found(rt.alloc(), Kind::Dep, shadow, bitmap, BLOCKS);
+        same(&rt, why_not(&rt, found), Why::Size { need, have });
     }
 }

@@ -2,7 +2,7 @@
 
 use crate::sets::{
     again, byte_in, copy, disk, has, made, moved_part, put_blocks, read, same, save_all, sizes,
-    write,
+    stage, write,
 };
 use avs_chunks::Chunks;
 use avs_dev::{Disk, MemDisk, Tear};
@@ -20,6 +20,8 @@ enum Step {
     Restore,
     // What is staged is not committed: the write of its block with this number stores so many blocks, and fails.
     Stops(u32, u32),
+    // A chunk is copied ahead, and all parts are staged with it split, and turned.
+    Joins(u32),
     // The set is found again on its disks.
     Loads,
     // So many copy steps are left, the first of this chunk.
@@ -47,6 +49,13 @@ fn copy_all(rt: &impl Abort, set: &mut Chunks<MemDisk>, master: &mut MemDisk) ->
     (5_000, first)
 }
 
+fn join(rt: &impl Abort, set: &mut Chunks<MemDisk>, master: &mut MemDisk, chunk: u32) {
+    for part in 0..set.chunks().div_ceil(2048) {
+        stage(rt, set, master, part, chunk);
+    }
+    set.turn();
+}
+
 fn change(rt: &impl Abort, set: &mut Chunks<MemDisk>, master: &mut MemDisk, step: Step) {
     match step {
         Step::Master(at, byte) => {
@@ -64,6 +73,7 @@ fn change(rt: &impl Abort, set: &mut Chunks<MemDisk>, master: &mut MemDisk, step
             assert!(rt; set.turn_to_master().is_ok());
             set.turn();
         }
+        Step::Joins(chunk) => join(rt, set, master, chunk),
         Step::Stops(skip, count) => {
             let tear = Tear {
                 skip,
@@ -112,7 +122,7 @@ fn play(rt: &impl Abort, alloc: Global, kind: Kind, blocks: u32, steps: &[Step])
     for &step in steps {
         change(rt, &mut set, &mut master, step);
         look(rt, &mut set, &mut master, step);
-        if matches!(step, Step::Renew(_) | Step::Restore) {
+        if matches!(step, Step::Renew(_) | Step::Restore | Step::Joins(_)) {
             live_b = !live_b;
         }
         if matches!(step, Step::Loads | Step::Stops(..)) {
@@ -156,6 +166,13 @@ fn independent(rt: &impl Abort, alloc: Global, last: u32) {
         Step::Renew(true),
         Step::Loads,
         Step::Sizes(chunk + 1, 0, 0),
+        Step::Joins(chunk),
+        Step::Sizes(chunk, 0, 1),
+        Step::Loads,
+        Step::Sizes(chunk, 0, 1),
+        Step::Moved(chunk, true),
+        Step::Master(last, 0x33),
+        Step::Sees(last, 0x22),
     ];
     play(rt, alloc, Kind::Ind, last + 1, &steps);
 }
@@ -190,6 +207,12 @@ fn dependent(rt: &impl Abort, alloc: Global, last: u32) {
         Step::Loads,
         Step::Sees(last, 0),
         Step::Sizes(0, 0, 0),
+        Step::Joins(chunk),
+        Step::Moved(chunk, true),
+        Step::Loads,
+        Step::Sizes(0, 0, 1),
+        Step::Master(last, 0x33),
+        Step::Sees(last, 0),
     ];
     play(rt, alloc, Kind::Dep, last + 1, &steps);
 }

@@ -1,21 +1,9 @@
-//! Shadow sets in chunks over disks in memory: what each call leaves, and each stop of one.
+//! Shadow sets in chunks over disks in memory: their disks and labels, and sets of one part and of more.
 #![tactic(auto)]
 
 #[cfg(test)]
-mod away;
-#[cfg(test)]
-mod calls;
-#[cfg(test)]
 mod disks;
 #[cfg(test)]
-mod exits;
-#[cfg(test)]
 mod large;
-#[cfg(test)]
-mod pairs;
-#[cfg(test)]
-mod plain;
-#[cfg(test)]
-mod runs;
 #[cfg(test)]
 mod sets;

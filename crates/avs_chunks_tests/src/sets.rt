@@ -1,12 +1,15 @@
 // Sets on disks in memory, and calls on them. A call that may fail says whether it went well.
 
-use avs_chunks::{ChunkState, Chunks};
+use avs_chunks::Chunks;
 use avs_dev::{Back, Closed2, Disk, MemDisk, Why};
 use avs_model::Kind;
 use avs_seg::{BLOCK, Failed};
 use std::alloc::Global;
 use std::fmt::Debug;
 use std::process::Abort;
+
+/// Three chunks, the last of eight blocks.
+pub const BLOCKS: u32 = 136;
 
 pub fn same<T: PartialEq + Debug + Drop>(rt: &impl Abort, found: T, want: T) {
     assert_eq!(rt; found, want);
@@ -16,13 +19,6 @@ pub fn same<T: PartialEq + Debug + Drop>(rt: &impl Abort, found: T, want: T) {
 pub fn disk(rt: &impl Abort, alloc: Global, blocks: u32, fails: &[u64]) -> MemDisk {
     let fails = fails.to_vec(alloc).expect(rt, "memory");
     MemDisk::new(alloc, blocks, fails).expect(rt, "memory")
-}
-
-/// Room for so many blocks.
-pub fn room(rt: &impl Abort, alloc: Global, blocks: u32, byte: u8) -> Vec<u8> {
-    let room = vec![in alloc; byte; BLOCK * blocks as usize].expect(rt, "memory");
-    assert!(rt; room.len() == BLOCK * blocks as usize);
-    room
 }
 
 fn some(rt: &impl Abort, made: Result<Chunks<MemDisk>, Closed2<MemDisk>>) -> Chunks<MemDisk> {
@@ -117,30 +113,6 @@ pub fn write(
     set.write(master, at, bytes).is_ok()
 }
 
-/// Saves the chunks of a range by one call.
-pub fn save_range(
-    rt: &impl Abort,
-    set: &mut Chunks<MemDisk>,
-    master: &mut MemDisk,
-    at: u32,
-    count: u32,
-) -> bool {
-    let first = at / 64;
-    let end = at.saturating_add(count).div_ceil(64);
-    assert!(rt; set.has_shadow() && master.blocks() == set.blocks());
-    assert!(rt; first <= end && end <= set.chunks());
-    set.save_range(master, first, end).is_ok()
-}
-
-/// Puts blocks on the shadow's disk alone.
-pub fn put_there(rt: &impl Abort, set: &mut Chunks<MemDisk>, at: u32, bytes: &[u8]) -> bool {
-    let count = bytes.len() / BLOCK;
-    assert!(rt; 0 < count && bytes.len() == BLOCK * count);
-    assert!(rt; set.has_shadow());
-    assert!(rt; count <= 4096 && at < 1 << 30 && at + count as u32 <= set.blocks());
-    set.put_shadow(at, bytes).is_ok()
-}
-
 /// Reads blocks of the shadow.
 pub fn read(
     rt: &impl Abort,
@@ -166,30 +138,21 @@ pub fn copy(
     set.copy_one(master)
 }
 
-/// Stages a part with these chunks split, which are copied before where they stand on the master alone.
+/// Stages a part with this chunk split, where it is one of it, which is copied before where it stands on the master alone.
 pub fn stage(
     rt: &impl Abort,
     set: &mut Chunks<MemDisk>,
     master: &mut MemDisk,
     part: u32,
-    split: &[u8; 256],
-) -> bool {
+    chunk: u32,
+) {
+    let mut split = [0; 256];
+    if chunk / 2048 == part {
+        split[chunk as usize % 2048 / 8] = 1 << (chunk % 8);
+    }
     assert!(rt; part < 4 && 2048 * part < set.chunks());
-    assert!(rt; set.has_shadow() && master.blocks() == set.blocks());
-    set.stage_part(master, part, split).is_ok()
-}
-
-/// The same by two calls.
-pub fn stage_apart(
-    rt: &impl Abort,
-    set: &mut Chunks<MemDisk>,
-    master: &mut MemDisk,
-    part: u32,
-    split: &[u8; 256],
-) -> bool {
-    assert!(rt; part < 4 && 2048 * part < set.chunks());
-    assert!(rt; set.has_shadow() && master.blocks() == set.blocks());
-    set.copy_part(master, part, split).is_ok() && set.stage_split(part, split).is_ok()
+    assert!(rt; set.has_shadow() && set.can_save() && master.blocks() == set.blocks());
+    assert!(rt; set.stage_part(master, part, &split).is_ok());
 }
 
 /// Whether a bit stands for a chunk of a part.
@@ -208,12 +171,6 @@ pub fn moved_part(rt: &impl Abort, set: &Chunks<MemDisk>, part: u32) -> [u8; 256
 /// The sizes of `left`, `back` and `moved`.
 pub fn sizes(set: &Chunks<MemDisk>) -> (u32, u32, u32) {
     (set.left(), set.back(), set.moved())
-}
-
-/// The state of a chunk.
-pub fn state(rt: &impl Abort, set: &Chunks<MemDisk>, chunk: u32) -> ChunkState {
-    assert!(rt; chunk < set.chunks());
-    set.state(chunk)
 }
 
 /// Blocks that have one byte throughout: that byte of the block at a place.

@@ -2,7 +2,7 @@
 
 use crate::sets::{
     Came, add_slots, again, byte_in, copy, get_blocks, made, made_over, over_again, put_blocks,
-    read, save, state, write,
+    read, save, stage, state, write,
 };
 use crate::tests::{disk, same};
 use avs_compact::{ChunkState, Compact};
@@ -26,6 +26,8 @@ enum Step {
     Restore,
     // The shadow becomes the master.
     Renew,
+    // A chunk is copied ahead, and all parts are staged with it split, and turned.
+    Joins(u32),
     // The set is found again on its disks.
     Loads,
     // A copy step.
@@ -55,6 +57,19 @@ fn release(over: &mut Option<Over<MemDisk>>) {
     if let Some(over) = over {
         over.release_set(NUMBER);
     }
+}
+
+fn join(
+    rt: &impl Abort,
+    set: &mut Compact<MemDisk>,
+    master: &mut MemDisk,
+    over: &mut Option<Over<MemDisk>>,
+    chunk: u32,
+) {
+    for part in 0..set.chunks().div_ceil(2048) {
+        stage(rt, set, master, over, part, chunk);
+    }
+    set.turn();
 }
 
 fn change(
@@ -90,6 +105,7 @@ fn change(
             set.turn();
             release(over);
         }
+        Step::Joins(chunk) => join(rt, set, master, over, chunk),
         Step::Copies(want) => same(rt, copy(rt, set, master, over).ok(), Some(want)),
         _ => {}
     }
@@ -143,7 +159,7 @@ fn play(rt: &impl Abort, alloc: Global, blocks: u32, steps: &[Step]) {
     for &step in steps {
         change(rt, &mut set, &mut master, &mut over, step);
         look(rt, &mut set, &mut master, &mut over, step);
-        if matches!(step, Step::Renew | Step::Restore) {
+        if matches!(step, Step::Renew | Step::Restore | Step::Joins(_)) {
             live_b = !live_b;
         }
         if matches!(step, Step::Loads | Step::Stops(..) | Step::StagesInPart(..)) {
@@ -192,6 +208,14 @@ fn one_slot(rt: &impl Abort, alloc: Global, last: u32) {
         Step::Loads,
         Step::State(chunk, ChunkState::OnMaster),
         Step::Slots(0, 3),
+        Step::Joins(chunk),
+        Step::Slots(1, 3),
+        Step::State(chunk, ChunkState::Split),
+        Step::Loads,
+        Step::State(chunk, ChunkState::Split),
+        Step::Master(last, 0x33),
+        Step::Sees(last, 0x11),
+        Step::Slots(1, 3),
     ];
     play(rt, alloc, last + 1, &steps);
 }
@@ -225,6 +249,13 @@ fn two_slots(rt: &impl Abort, alloc: Global, last: u32) {
         Step::Loads,
         Step::Slots(0, 3),
         Step::State(0, ChunkState::OnMaster),
+        Step::Joins(chunk),
+        Step::Joins(0),
+        Step::Slots(2, 3),
+        Step::Next(Some((0, 0))),
+        Step::Loads,
+        Step::Sees(0, 0),
+        Step::Sees(last, 0x11),
     ];
     play(rt, alloc, last + 1, &steps);
 }
@@ -238,8 +269,8 @@ fn sets_of_one_chunk_are_kept_as_others(rt: HostRuntime) {
 
 #[test]
 fn a_block_has_the_entries_of_128_chunks(rt: HostRuntime) {
-    // The first block of chunk 127, and the last of five of chunk 128.
-    for last in [8_128, 8_196] {
+    // The first block of chunk 127, the last of five of chunk 128, and chunk 2,048, which is another part.
+    for last in [8_128, 8_196, 131_072] {
         one_slot(&rt, rt.alloc(), last);
         two_slots(&rt, rt.alloc(), last);
     }

@@ -1,18 +1,8 @@
-//! Compact sets over disks in memory, by their public calls.
+//! Compact sets over disks in memory: their entries and labels, their slots, and sets of one block of entries and of more.
 #![tactic(auto)]
 
 #[cfg(test)]
-mod calls;
-#[cfg(test)]
-mod exits;
-#[cfg(test)]
 mod large;
-#[cfg(test)]
-mod pairs;
-#[cfg(test)]
-mod plain;
-#[cfg(test)]
-mod runs;
 #[cfg(test)]
 mod sets;
 #[cfg(test)]

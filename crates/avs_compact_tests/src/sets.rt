@@ -26,20 +26,6 @@ fn outcome(answer: Result<(), CompactFault>) -> Came {
     }
 }
 
-fn done(answer: Result<(), Failed>) -> Came {
-    match answer {
-        Ok(()) => Came::Done,
-        Err(Failed) => Came::Failed,
-    }
-}
-
-/// Room for so many blocks of one byte.
-pub fn room(rt: &impl Abort, alloc: Global, blocks: u32, byte: u8) -> Vec<u8> {
-    let room = vec![in alloc; byte; BLOCK * blocks as usize].expect(rt, "memory");
-    assert!(rt; room.len() == BLOCK * blocks as usize);
-    room
-}
-
 fn some(rt: &impl Abort, made: Result<Compact<MemDisk>, Closed2<MemDisk>>) -> Compact<MemDisk> {
     match made {
         Ok(set) => set,
@@ -158,19 +144,6 @@ pub fn save(
     outcome(set.save_before(master, over, first, end - first))
 }
 
-/// Copies a chunk to the master that stands in its slot alone.
-pub fn bring(
-    rt: &impl Abort,
-    set: &mut Compact<MemDisk>,
-    master: &mut MemDisk,
-    over: &mut Option<Over<MemDisk>>,
-    chunk: u32,
-) -> Came {
-    assert!(rt; chunk < set.chunks() && master.blocks() == set.blocks());
-    assert!(rt; set.has_shadow() && set.is_served(over));
-    done(set.bring_back(master, over, chunk))
-}
-
 /// One copy step.
 pub fn copy(
     rt: &impl Abort,
@@ -248,15 +221,22 @@ pub fn byte_in(rt: &impl Abort, bytes: &[u8], place: u32) -> u8 {
     block[0]
 }
 
-/// The blocks written on the disks of a set and on its overflow volume.
-pub fn written(set: &Compact<MemDisk>, over: &Option<Over<MemDisk>>) -> (u64, u64, u64) {
-    let slots = match over {
-        Some(over) => over.written(0),
-        None => None,
-    };
-    (
-        set.written(0).unwrap_or(0),
-        set.written(1).unwrap_or(0),
-        slots.unwrap_or(0),
-    )
+/// Stages a part with this chunk split, where it is one of it. It is copied ahead before, where it has no slot.
+pub fn stage(
+    rt: &impl Abort,
+    set: &mut Compact<MemDisk>,
+    master: &mut MemDisk,
+    over: &mut Option<Over<MemDisk>>,
+    part: u32,
+    chunk: u32,
+) {
+    let mut split = [0; 256];
+    if chunk / 2048 == part {
+        split[chunk as usize % 2048 / 8] = 1 << (chunk % 8);
+    }
+    assert!(rt; part < 4 && 2048 * part < set.chunks());
+    assert!(rt; set.has_shadow() && master.blocks() == set.blocks());
+    let lacks = set.lacks(part, &split).unwrap_or(3_000);
+    assert!(rt; lacks <= 2048 && set.need() + lacks <= set.room(over));
+    assert!(rt; set.stage_part(master, over, part, &split).is_ok());
 }
