@@ -18,7 +18,7 @@ use Rattle.avs_sets.proofs.OwnSlots.{all_keeps, own_placed, all_takes}
 use Rattle.avs_held.specs.declared.held.Seat.{Seat}
 use Rattle.avs_held.specs.Held.{chunk_set}
 use Rattle.avs_over.specs.Over.{OverSet}
-use Rattle.avs_held.specs.Rooms.{on_disks, KeepsOwned}
+use Rattle.avs_held.specs.Rooms.{on_disks, IsOwned, KeepsOwned}
 use Rattle.avs_held.proofs.Told.{own_is, own_not_over}
 use Rattle.avs_held.proofs.Projected.{same_disk, all_spots, plain_read, states_are, read_is, behind_same}
 
@@ -140,14 +140,18 @@ module _ (says : BlockSays) (seat : Seat) (s s' : ChunkSet) (m m' over : Seen) {
 
 -- ---- of the overflow volume it keeps all
 
+-- none of its chunks stands there, so that it owns what it has there, whatever that volume
+pub chunks_owned : (seat : Seat) (s : ChunkSet) (m : Seen) (o : OverSet) → IsOwned (on_disks (chunk_set seat s) m o)
+chunks_owned seat s m o = record {
+  apart = λ c d lt lt' ne some some' same. ne (sym (own_is d c same));
+  taken = λ c slot lt some at. absurd (own_not_over c slot at);
+}
+
 module _ (seat : Seat) (s s' : ChunkSet) (m m' : Seen) (o : OverSet) where
   pub owned_kept : KeepsOwned (on_disks (chunk_set seat s) m o) (on_disks (chunk_set seat s') m' o)
   owned_kept = record {
     served = λ owned served. record { each = λ c slot lt some at. absurd (own_not_over c slot at) };
-    owned = λ owned. record {
-      apart = λ c d lt lt' ne some some' same. ne (sym (own_is d c same));
-      taken = λ c slot lt some at. absurd (own_not_over c slot at);
-    };
+    owned = λ owned. chunks_owned seat s' m' o;
     takes = record { each = λ slot. inl refl };
     label = λ owned told. refl;
   }

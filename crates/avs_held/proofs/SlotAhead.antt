@@ -141,6 +141,7 @@ module _ (seat : Seat) (s s' : CompactSet) (m m' : Seen) (o o' : OverSet) (told 
     chunks = λ is. absurd (never (sym is));
     master = ap (λ (d : Seen). shown d) a.keeps.master;
     owned = slots_kept seat s s' m m' o o' shape form a.keeps.over a.keeps.slots;
+    outside = λ is. absurd (never (sym is));
     copied = λ m_told s_told o_told.
         let was = subst (λ (d : Seen). IsTold d) (same_disk s.shadow) s_told in
         on_ok_weaker r (λ x. are_copied m_told was o_told x.0 x.1) (both _ _ r a.kept (a.copied m_told was o_told));

@@ -164,6 +164,9 @@ module _ (seat : Seat) (s s' : ChunkSet) (m m' : Seen) (told : ℕ → Bool) (fi
     chunks = λ is. (ap (λ (x : ChunkSet). own_map (λ c. state_in x.next c)) a.is, refl);
     master = λ p. cond (eqb (length (a.master p)) ((a.keeps.goes.lasts Master).size p)) (a.master p) [];
     owned = owned_kept seat s s' m m' o;
+    outside = λ is told i out.
+        let was = subst (λ (d : Seen). IsTold d) (same_disk s.shadow) told in
+        ap (λ (img : Image). block_at img i) (shadow_now was) ∙ a.outside was i out ∙ sym (ap (λ (img : Image). block_at img i) (shown_is s was));
     copied = λ m_told is over_told.
         let was = subst (λ (d : Seen). IsTold d) (same_disk s.shadow) is in
         on_ok_weaker r (λ each. record {

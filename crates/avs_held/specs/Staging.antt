@@ -1,6 +1,6 @@
 -- An update of a set: chunks are copied ahead and states are staged, which changes nothing that is seen, and once the owner has committed
 -- that they are the live ones.
-use Rattle.std.specs.Prelude.{◌≡◌, ◌≢◌, ℕ, ◌+◌, ◌-◌, ◌*◌, ◌/◌, ◌<◌, ◌≤◌, ◌==◌, ◌&&◌, nat_lt, min, Bool, true, false, not, if◌then◌else◌, List, Result, OnOk, OnErr}
+use Rattle.std.specs.Prelude.{◌≡◌, ◌≢◌, ◌⊎◌, ℕ, ◌+◌, ◌-◌, ◌*◌, ◌/◌, ◌<◌, ◌≤◌, ◌==◌, ◌&&◌, nat_lt, min, Bool, true, false, not, if◌then◌else◌, List, Result, OnOk, OnErr}
 use Rattle.avs_seg.specs.Image.{Block, block_at}
 use Rattle.avs_seg.specs.Segment.{seg_len}
 use Rattle.avs_dev.specs.Seen.{Seen, IsTold, shown}
@@ -95,6 +95,8 @@ pub record CopiesTold {T E : Type 0} (old : OnDisks) (told : ℕ → Bool) (firs
   pub chunks : is_compact old.set.kind ≡ false → (new.set.next ≡ old.set.next) × (new.over ≡ old.over)
   pub master : shown new.master ≡ shown old.master
   pub owned : KeepsOwned old new
+  pub outside : is_compact old.set.kind ≡ false → IsTold (shadow_disk old.set) → (i : ℕ) → (i / 64 < first) ⊎ (end ≤ i / 64)
+      → block_at (shown (shadow_disk new.set)) i ≡ block_at (shown (shadow_disk old.set)) i
   pub copied : IsTold old.master → IsTold (shadow_disk old.set) → IsTold old.over.disk → OnOk result (AreCopied told old first end new)
   pub adds : AddsTo old (ahead_work told old.set first (end - first)) result new
 

@@ -1,6 +1,7 @@
 // A set in its seat of a group.
-ghost use Rattle.std.specs.Prelude.{◌≡◌, ◌<◌, ◌≤◌, ◌^◌, None, Some, is_some};
+ghost use Rattle.std.specs.Prelude.{◌≡◌, ◌<◌, ◌≤◌, ◌^◌, false, None, Some, is_some};
 ghost use Rattle.std.specs.Option.{option_map};
+ghost use Rattle.avs_model.specs.ShadowSets.{is_compact};
 ghost use Rattle.avs_sets.specs.Sets.{chunks_of};
 ghost use Rattle.avs_held.specs.Held.{HasRoom, chunk_set, seen_of};
 
@@ -55,9 +56,10 @@ impl<D: Disk> HeldSet<D> {
         self.seat
     }
 
-    /// What the set is.
+    /// What the set is: not compact.
     pub fn kind(&self) -> Kind
-        ensures { result ≡ (seen_of self.now).kind }
+        ensures is { result ≡ (seen_of self.now).kind }
+        ensures chunks { is_compact (seen_of self.now).kind ≡ false }
     {
         self.chunks.kind()
     }

@@ -140,7 +140,8 @@ impl<D: Disk> HeldCompact<D> {
         requires part { part < area_len (chunks_of (slots_seen self.old)) }
         requires blocks { (D.seen master.old).size ≡ (slots_seen self.old).size.blocks }
         requires there { IsTrue (is_some (slots_seen self.old).shadow) }
-        requires room { need_of self.old.slots + told_lacking (slots_seen self.old) part split.now ≤ room_of self.old.slots (over_of over.old) }
+        requires room { need_of self.old.slots + told_lacking (slots_seen self.old) part split.now
+            ≤ room_of self.old.slots (over_of over.old) }
         ensures { CopiesTold (on_disks (slots_seen self.old) (D.seen master.old) (over_of over.old)) (told_by split.now part)
             (2048 * part)
             (part_end (chunks_of (slots_seen self.old)) part) result (on_disks (slots_seen self.new) (D.seen master.new) (over_of over.new)) }

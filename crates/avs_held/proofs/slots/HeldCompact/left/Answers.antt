@@ -1,4 +1,4 @@
-use Rattle.std.proofs.Common.{rules, ◌≡◌, ◌∙◌, sym}
+use Rattle.std.proofs.Common.{◌∙◌, sym}
 use Rattle.avs_compact.specs.CompactSet.{chunks_of}
 use Rattle.avs_held.proofs.SlotCounted.{none_left}
 use Rattle.avs_held.proofs.slots.HeldCompact.left.Goals as goal
