@@ -7,3 +7,5 @@ mod half;
 mod refusals;
 #[cfg(test)]
 mod stops;
+#[cfg(test)]
+mod writes;
