@@ -1,12 +1,10 @@
 -- Changes of bits one after another.
-use Rattle.std.proofs.Common.{◌≡◌, ◌⊎◌, inl, inr, ℕ, ◌+◌, ◌<◌, ◌≤◌, Bool, true, false, ◌||◌, ◌&&◌, cond, eqb, List, length, Result, Ok, Err, OnOk, OnErr, ◌∙◌, sym, refl, ap, subst, arith}
+use Rattle.std.proofs.Common.{◌≡◌, ℕ, Bool, true, false, ◌||◌, cond, List, Result, Ok, Err, ◌∙◌, refl, ap, subst}
 use Rattle.std.proofs.Math.Path.{fun_ext}
-use Rattle.std.proofs.lemmas.Bool.Decides.{nat_tests}
-use Rattle.avs_dev.specs.Seen.{IsTold, IsSpared, Fails}
+use Rattle.avs_dev.specs.Seen.{IsTold}
 use Rattle.avs_dev.specs.Devices.{OneFails}
 use Rattle.avs_dev.proofs.Going.{lasts_same, lasts_then, spared_same, spared_then, fails_then}
-use Rattle.avs_bits.specs.BitSet.{BitSet, set_of, IsInStep, HoldsPart}
-use Rattle.avs_bits.specs.Bit.{IsPart}
+use Rattle.avs_bits.specs.BitSet.{set_of, IsInStep, HoldsPart}
 use Rattle.avs_bits.proofs.Parts.{part_same, part_then, part_wider, held_then}
 use Rattle.avs_mirrors.specs.Due.{Segments, Keys}
 use Rattle.avs_halves.specs.SetBits.{SetBits, set_at, disk_at}

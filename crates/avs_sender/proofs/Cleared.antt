@@ -1,12 +1,12 @@
 -- Bits that were cleared, and places that a known place frees.
-use Rattle.std.proofs.Common.{◌≡◌, ◌⊎◌, inl, inr, ℕ, ◌+◌, ◌<◌, ◌≤◌, max, Bool, true, false, ◌||◌, ◌&&◌, not, cond, eqb, List, [], ◌∷◌, All, length, get_or, Result, Ok, Option, None, Some, ◌∙◌, sym, refl, ap, subst, arith}
+use Rattle.std.proofs.Common.{◌≡◌, inl, inr, ℕ, ◌<◌, ◌≤◌, max, Bool, true, false, ◌||◌, ◌&&◌, not, cond, eqb, List, [], ◌∷◌, All, Ok, Option, None, Some, ◌∙◌, refl, ap, subst, arith}
 use Rattle.std.specs.Prelude.{nat_lt, nat_le}
 use Rattle.std.specs.Option.{option_map_or}
 use Rattle.std.proofs.lemmas.Bool.{cases_Bool, cases_lt, eqb-true}
 use Rattle.std.proofs.lemmas.Bool.Decides.{nat_tests}
 use Rattle.std.proofs.lemmas.List.Elements.{All-head, All-tail}
 use Rattle.avs_bits.specs.BitSet.{set_of}
-use Rattle.avs_refs.specs.Places.{Places, greatest_at, is_among, is_freed, is_left}
+use Rattle.avs_refs.specs.Places.{greatest_at, is_among, is_freed}
 use Rattle.avs_mirrors.specs.Due.{Keys}
 use Rattle.avs_sync.specs.declared.session.Session.{Session}
 use Rattle.avs_halves.specs.SetBits.{SetBits, set_at, has_bit}

@@ -1,24 +1,22 @@
 -- What is found of a half whose bits were changed, done or stopped.
-use Rattle.std.proofs.Common.{◌≡◌, ◌⊎◌, inl, inr, ℕ, ◌<◌, ◌≤◌, Bool, true, false, ◌||◌, ◌&&◌, not, cond, List, [], length, map, get_or, Result, Option, None, Some, is_some, ◌∙◌, sym, refl, ap, subst, arith}
+use Rattle.std.proofs.Common.{◌≡◌, ◌⊎◌, inl, inr, ℕ, Bool, true, false, ◌&&◌, not, cond, [], length, map, get_or, Result, None, Some, ◌∙◌, sym, refl, ap, subst}
 use Rattle.std.specs.Prelude.{nat_lt}
-use Rattle.std.proofs.Math.Path.{fun_ext}
 use Rattle.std.proofs.lemmas.Bool.{cases_Bool}
-use Rattle.std.proofs.lemmas.Bool.Decides.{nat_tests}
 use Rattle.avs_dev.specs.Below.{BelowSeen}
 use Rattle.avs_bits.specs.Bit.{IsPart}
 use Rattle.avs_bits.specs.BitSet.{set_of, HoldsPart, IsOnDisk}
-use Rattle.avs_mirrors.specs.Due.{Due, Keys, freed_due, noted, zero_of, zeros}
+use Rattle.avs_mirrors.specs.Due.{Due, Keys, zero_of}
 use Rattle.avs_mirrors.specs.Entries.{Images}
 use Rattle.avs_mirrors.specs.Half.{Logging, no_sets}
 use Rattle.avs_sync.specs.declared.note.Note.{Note}
 use Rattle.avs_sync.specs.Parts.{MirrorSet}
-use Rattle.avs_halves.specs.SetBits.{SetBits, AreInStep, set_at, disk_at, has_bit, part_of, no_part}
+use Rattle.avs_halves.specs.SetBits.{SetBits, AreInStep, set_at, disk_at, part_of, no_part}
 use Rattle.avs_halves.specs.Changing.{ChangesSets}
 use Rattle.avs_sender.specs.Held.{SenderHalf, held, parts_of}
 use Rattle.avs_halves.specs.Over.{IsOver}
 use Rattle.avs_halves.specs.Found.{bit_found, due_found, is_filled}
 use Rattle.avs_halves.proofs.Lying.{found_held, part_is, there_is}
-use Rattle.avs_sender.specs.Meaning.{due_of, found_by, found_of, images_found, segs_of, sender_of}
+use Rattle.avs_sender.specs.Meaning.{found_by, found_of, images_found, segs_of, sender_of}
 
 -- ---- one segment: whether it is there, had a bit, and has one on the disk
 

@@ -1,10 +1,10 @@
 -- Segments of all sets that a known place frees, one set after another.
-use Rattle.std.proofs.Common.{◌≡◌, ◌≢◌, ◌⊎◌, inl, inr, ℕ, ◌+◌, ◌<◌, ◌≤◌, Bool, true, false, ◌||◌, ◌&&◌, not, cond, eqb, List, [], length, map, get_or, set, Result, Ok, Err, ◌∙◌, sym, refl, ap, subst, arith, length-set}
+use Rattle.std.proofs.Common.{◌≡◌, ◌≢◌, inl, inr, ℕ, ◌+◌, ◌<◌, ◌≤◌, Bool, true, false, ◌||◌, ◌&&◌, not, eqb, List, length, map, get_or, set, Ok, Err, ◌∙◌, sym, refl, ap, subst, arith, length-set}
 use Rattle.std.specs.Prelude.{nat_lt, nat_le}
-use Rattle.std.proofs.lemmas.Bool.{cases_Bool, cases_lt, cases_eq}
+use Rattle.std.proofs.lemmas.Bool.{cases_lt, cases_eq}
 use Rattle.std.proofs.lemmas.Bool.Decides.{nat_tests}
 use Rattle.std.proofs.lemmas.List.{get_or-map, get_or-set_same, get_or-set_other, get_or_past, length-map}
-use Rattle.avs_refs.specs.Places.{greatest_at, is_freed}
+use Rattle.avs_refs.specs.Places.{greatest_at}
 use Rattle.avs_mirrors.specs.Due.{Keys}
 use Rattle.avs_halves.specs.SetBits.{SetBits, set_at}
 use Rattle.avs_halves.specs.Changing.{ChangesSets, keys_of}

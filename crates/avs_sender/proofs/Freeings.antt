@@ -1,17 +1,17 @@
 -- Segments that a known place frees, one after another.
-use Rattle.std.proofs.Common.{◌≡◌, ◌≢◌, ◌⊎◌, inl, inr, ℕ, ◌+◌, ◌-◌, ◌<◌, ◌≤◌, Bool, true, false, ◌||◌, ◌&&◌, not, cond, eqb, List, All, length, get_or, set, Result, Ok, Err, None, Some, ◌∙◌, sym, refl, ap, subst, arith}
+use Rattle.std.proofs.Common.{◌≡◌, ◌≢◌, ◌⊎◌, inl, inr, ℕ, ◌-◌, ◌≤◌, Bool, true, false, ◌||◌, ◌&&◌, not, cond, eqb, List, All, length, get_or, Ok, Err, None, Some, ◌∙◌, sym, refl, ap, subst, arith}
 use Rattle.std.specs.Prelude.{nat_lt, nat_le}
-use Rattle.std.proofs.lemmas.Bool.{cases_Bool, cases_eq}
+use Rattle.std.proofs.lemmas.Bool.{cases_eq}
 use Rattle.std.proofs.lemmas.Bool.Decides.{nat_tests}
 use Rattle.std.proofs.lemmas.List.{get_or-set_same, get_or-set_other}
 use Rattle.avs_seg.specs.Image.{is_inside}
-use Rattle.avs_refs.specs.Places.{Places, Drains, Frees, Gives, GoesOnDraining, KeepsOutstanding, Retires, IsAbove, greatest_at, is_freed}
-use Rattle.avs_mirrors.specs.Due.{Segments, Keys}
-use Rattle.avs_halves.specs.SetBits.{SetBits, set_at}
+use Rattle.avs_refs.specs.Places.{Places, Drains, Gives, GoesOnDraining, KeepsOutstanding, Retires, greatest_at, is_freed}
+use Rattle.avs_mirrors.specs.Due.{Keys}
+use Rattle.avs_halves.specs.SetBits.{SetBits}
 use Rattle.avs_halves.specs.Changing.{ChangesSets, keys_of, run_of}
 use Rattle.avs_sender.specs.Held.{SetPlaces}
 use Rattle.avs_sender.specs.Waits.{waits_at}
-use Rattle.avs_sender.specs.Freeing.{FreesPlaces, FreesSoFar, CanFree, SizedAs, freed_segs, given_segs}
+use Rattle.avs_sender.specs.Freeing.{FreesPlaces, FreesSoFar, SizedAs, freed_segs, given_segs}
 use Rattle.avs_sender.proofs.Changes.{changes_none, changes_same, changes_then, changes_wider, changes_ok}
 
 -- ---- one segment, over plain values: t whether it is one of the set, f whether it is freed, and its place

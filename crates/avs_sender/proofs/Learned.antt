@@ -1,5 +1,5 @@
 -- What a half keeps, and what is due of it, once it knows a place.
-use Rattle.std.proofs.Common.{◌≡◌, ◌⊎◌, inl, inr, ℕ, ◌+◌, ◌-◌, ◌<◌, ◌≤◌, max, Bool, true, false, ◌&&◌, not, cond, eqb, List, [], All, drop, length, get_or, Result, Ok, Err, Option, None, Some, ◌∙◌, sym, refl, ap, subst, arith, length-drop}
+use Rattle.std.proofs.Common.{◌≡◌, inl, inr, ℕ, ◌+◌, ◌-◌, ◌<◌, ◌≤◌, max, Bool, true, false, ◌&&◌, not, cond, eqb, List, All, length, Result, Ok, None, Some, ◌∙◌, sym, refl, ap, subst, arith, length-drop}
 use Rattle.std.specs.Prelude.{nat_lt, nat_le}
 use Rattle.std.proofs.Math.Path.{fun_ext}
 use Rattle.std.proofs.lemmas.Bool.{cases_lt}
@@ -7,22 +7,21 @@ use Rattle.std.proofs.lemmas.Bool.Decides.{nat_tests}
 use Rattle.std.proofs.lemmas.List.{get_or_past}
 use Rattle.std.proofs.lemmas.List.Elements.{All-weaker, filter_passes}
 use Rattle.avs_bits.specs.BitSet.{set_of}
-use Rattle.avs_refs.specs.Places.{Places, greatest_at, is_freed, places_above}
+use Rattle.avs_refs.specs.Places.{greatest_at, is_freed, places_above}
 use Rattle.avs_mqueue.specs.Queue.{Queue, Advances}
 use Rattle.avs_model.specs.declared.entry.Entry.{Entry}
-use Rattle.avs_mirrors.specs.Due.{Due, frees, freed_due}
+use Rattle.avs_mirrors.specs.Due.{frees, freed_due}
 use Rattle.avs_mirrors.specs.Half.{State, Logging, Syncing, Receiving, Replicating, Queuing, is_session, is_acting_state}
-use Rattle.avs_sync.specs.Session.{hears_ticks, knows_mark, ticked, left, MayTick}
-use Rattle.avs_sync.specs.Note.{NoteFits, NoteKeeps}
+use Rattle.avs_sync.specs.Session.{hears_ticks, knows_mark, ticked, MayTick}
 use Rattle.avs_sync.specs.declared.note.Note.{Note}
 use Rattle.avs_sync.specs.declared.session.Session.{Session}
 use Rattle.avs_halves.specs.SetBits.{SetBits, set_at, has_bit, no_set}
 use Rattle.avs_halves.specs.Changing.{ChangesSets}
 use Rattle.avs_sender.specs.Held.{SenderHalf, SetPlaces}
 use Rattle.avs_sender.specs.Kept.{ArePlacesIn, ArePlacesOf, HaveSlots, HoldsAbove, IsDueIn, IsInSession, IsKept, IsSessionOf}
-use Rattle.avs_sender.specs.Meaning.{due_of, no_places, places_at, waits}
+use Rattle.avs_sender.specs.Meaning.{due_of, places_at, waits}
 use Rattle.avs_sender.specs.Waits.{waits_at}
-use Rattle.avs_sender.specs.Freeing.{AreSizedAs, FreesEach, FreesPlaces, set_places_at, CanFree}
+use Rattle.avs_sender.specs.Freeing.{AreSizedAs, FreesEach, FreesPlaces, set_places_at}
 use Rattle.avs_sender.specs.Learning.{IsTurned, half_with, known_then, learned_keys, turns}
 use Rattle.avs_sender.proofs.Cleared.{freed_at, freed_due_one, frees_one, has_cleared, placed_kept, waiting_kept}
 

@@ -9,4 +9,10 @@ pub mod Cleared
 pub mod Learned
 pub mod Founds
 pub mod Tickings
+pub mod LearnedHalf
+pub mod Arming
+pub mod Lendings
 pub mod Noted
+pub mod Notings
+pub mod Trackings
+pub mod Beginnings

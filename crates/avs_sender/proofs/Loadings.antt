@@ -26,14 +26,10 @@ use Rattle.avs_sender.specs.Held.{SenderHalf, SenderParts, SetPlaces, held, part
 use Rattle.avs_sender.specs.Kept.{IsKept, ArePlacesOf}
 use Rattle.avs_sender.specs.Meaning.{no_places, sender_of, found_by, found_of}
 use Rattle.avs_sender.specs.Places.{no_places_for}
-use Rattle.avs_sender.specs.Loading.{IsLoadable, AreToldParts, OpensHalf, Loads, found_session}
+use Rattle.avs_sender.specs.Loading.{IsLoadable, AreToldParts, OpensHalf, Loads, half_found}
 use Rattle.avs_sender.proofs.Meanings.{found_is, zeros_are}
 
--- the half that is made of sets as they were found
-abbrev pub half_found : Host → Seen → Note → List SetBits → List SetPlaces → Queue → SenderHalf
-half_found host land n sets places queue = record { host = host; sets = sets; places = places; land = land; note = n; session = found_session n; queue = queue }
-
-module _ (p : SenderParts) (limits : Limits) (n : Note) (sets : List SetBits) (places : List SetPlaces) (queue : Queue) (loadable : IsLoadable p) (is : IsNote p.below.note n) (o : OpensHalf p.below p.sets limits sets places queue) where
+module _ (p : SenderParts) (limits : Limits) (n : Note) (sets : List SetBits) (places : List SetPlaces) (queue : Queue) (loadable : IsLoadable p) (is : IsNote p.below.note n) (o : OpensHalf p.below.sizes p.sets limits sets places queue) where
   h : SenderHalf
   h = half_found p.host p.land n sets places queue
 
@@ -74,7 +70,7 @@ module _ (p : SenderParts) (limits : Limits) (n : Note) (sets : List SetBits) (p
   pub loads : (sound : Type 0) → Loads sound p limits (held p.below (half_found p.host p.land n sets places queue))
   loads sound = record {
     parts_are = parts_found;
-    limits_are = o.queue_is.limits_are;
+    limits_are = o.memory.queue_is.limits_are;
     note = is;
     session = refl;
     means = λ told. sym found_same
@@ -90,27 +86,21 @@ module _ (p : SenderParts) (limits : Limits) (n : Note) (sets : List SetBits) (p
     };
   }
 
-  place_found : (set : ℕ) → set < length sets → get_or places set no_places ≡ no_places_for limits.writes (seg_count (size_of p.below (set_at sets set).vol))
-  place_found set there =
-      ap (λ (l : List SetPlaces). get_or l set no_places) o.places_are
-      ∙ at (λ vol. no_places_for limits.writes (seg_count (size_of p.below vol))) (map (λ s. s.vol) sets) set 0 (omega (arith, there, length-map sets (λ s. s.vol)))
-      ∙ ap (λ (vol : ℕ). no_places_for limits.writes (seg_count (size_of p.below vol))) (get_or-map (λ s. s.vol) sets set no_set)
-    where
-      at : (f : ℕ → SetPlaces) (xs : List ℕ) (i d : ℕ) → i < length xs → get_or (map f xs) i no_places ≡ f (get_or xs i d)
-      at f xs i d low = within f xs i d no_places low
+  place_found : (set : ℕ) → set < length sets → get_or places set no_places ≡ no_places_for limits.writes (set_at sets set).bits.segs
+  place_found set there = ap (λ (l : List SetPlaces). get_or l set no_places) o.memory.places_are ∙ within (λ (s : SetBits). no_places_for limits.writes s.bits.segs) sets set no_set no_places there
 
   pub kept : IsKept (half_found p.host p.land n sets places queue)
   kept = record {
-    count = ap (λ (l : List SetPlaces). length l) o.places_are ∙ length-map (map (λ s. s.vol) sets) (λ vol. no_places_for limits.writes (seg_count (size_of p.below vol))) ∙ length-map sets (λ s. s.vol);
+    count = ap (λ (l : List SetPlaces). length l) o.memory.places_are ∙ length-map sets (λ s. no_places_for limits.writes s.bits.segs);
     few = omega (arith, count, loadable.few);
     slots = record {
       low = λ set there. subst (λ (m : MirrorSet). m.slot < 16) (part_found set) (loadable.own set (omega (arith, there, count))).slot;
       apart = λ set other there also same. (loadable.own set (omega (arith, there, count))).slots other (omega (arith, also, count)) (ap (λ (m : MirrorSet). m.slot) (part_found other) ∙ same ∙ ap (λ (m : MirrorSet). m.slot) (sym (part_found set)));
     };
     places = λ set there. subst (λ (q : SetPlaces). ArePlacesOf (set_at sets set) queue.limits.writes q) (sym (place_found set there)) (record {
-      segs = length-replicate (seg_count (size_of p.below (set_at sets set).vol)) 0 ∙ sym (opened set there).segs;
-      waiting = length-replicate (seg_count (size_of p.below (set_at sets set).vol)) false ∙ sym (opened set there).segs;
-      room = ap (λ (l : Limits). l.writes) (sym o.queue_is.limits_are);
+      segs = length-replicate (set_at sets set).bits.segs 0;
+      waiting = length-replicate (set_at sets set).bits.segs false;
+      room = ap (λ (l : Limits). l.writes) (sym o.memory.queue_is.limits_are);
     });
     note = is.keeps;
     fits = is.fits;
@@ -126,5 +116,5 @@ module _ (p : SenderParts) (limits : Limits) (n : Note) (sets : List SetBits) (p
       idle = λ received. refl;
     };
     sends = λ on. absurd (cc);
-    away = λ off. o.queue_is.none;
+    away = λ off. o.memory.queue_is.none;
   }

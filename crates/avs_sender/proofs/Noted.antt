@@ -1,109 +1,193 @@
--- What a half keeps, and has, once it learned a place or a disk failed.
-use Rattle.std.proofs.Common.{◌≡◌, ◌≢◌, ◌⊎◌, inl, inr, ℕ, ◌+◌, ◌-◌, ◌*◌, ◌<◌, ◌≤◌, Bool, true, false, ◌||◌, ◌&&◌, not, cond, eqb, List, [], ◌∷◌, drop, length, get_or, Result, Ok, Err, ◌∙◌, sym, refl, ap, subst, arith, length-drop}
+-- A half whose bits have changed.
+use Rattle.std.proofs.Common.{◌≡◌, ◌⊎◌, inl, inr, ℕ, ◌<◌, ◌≤◌, ◌^◌, Bool, true, false, ◌&&◌, cond, List, [], length, map, get_or, Result, Ok, Option, None, Some, is_some, ◌∙◌, sym, refl, ap, subst, arith}
 use Rattle.std.specs.Prelude.{nat_lt}
-use Rattle.std.proofs.lemmas.Bool.{cases_Bool, cases_lt}
-use Rattle.std.proofs.lemmas.Bool.Decides.{nat_tests}
-use Rattle.avs_refs.specs.Places.{greatest_at}
-use Rattle.avs_mqueue.specs.Queue.{Queue, Advances, next_place}
-use Rattle.avs_model.specs.declared.entry.Entry.{Entry}
-use Rattle.avs_model.specs.declared.entry.Limits.{Limits}
-use Rattle.avs_mirrors.specs.Due.{Keys}
-use Rattle.avs_mirrors.specs.Half.{Logging, is_session}
-use Rattle.avs_sync.specs.Session.{left, ticked}
+use Rattle.std.proofs.Math.Path.{fun_ext}
+use Rattle.std.proofs.lemmas.List.{ext_get_or, length-map}
+use Rattle.std.proofs.lemmas.List.{get_or-map as within}
+use Rattle.avs_seg.specs.Image.{Image}
+use Rattle.avs_seg.specs.Segment.{seg_count}
+use Rattle.avs_model.specs.declared.half.HalfRole.{HalfRole}
+use Rattle.avs_dev.specs.Below.{BelowSeen}
+use Rattle.avs_bits.specs.BitSet.{HoldsPart, IsOnDisk, set_of}
+use Rattle.avs_mirrors.specs.Due.{Due, Keys, noted, zero_of, zeros}
+use Rattle.avs_mirrors.specs.Half.{Logging, is_session, no_sets, with_bits}
+use Rattle.avs_sync.specs.Parts.{MirrorSet}
 use Rattle.avs_sync.specs.declared.note.Note.{Note}
-use Rattle.avs_sync.specs.declared.session.Session.{Session}
-use Rattle.avs_halves.specs.SetBits.{SetBits, set_at, has_bit}
+use Rattle.avs_halves.specs.SetBits.{AreInStep, SetBits, has_bit, no_part, no_set, part_of, set_at}
 use Rattle.avs_halves.specs.Changing.{ChangesSets}
-use Rattle.avs_halves.specs.Writing.{touched}
-use Rattle.avs_sender.specs.Held.{SenderHalf, SetPlaces}
-use Rattle.avs_sender.specs.Kept.{HoldsAbove, IsDueIn, IsInSession, IsKept, IsSessionOf}
-use Rattle.avs_sender.specs.Meaning.{due_of, places_at, waits}
-use Rattle.avs_sender.specs.Freeing.{AreSizedAs, FreesEach, set_places_at}
-use Rattle.avs_sender.specs.Learning.{HasLearned, LearnsInPart, half_with, known_then, learned_keys, turns}
-use Rattle.avs_sender.proofs.FreedSets.{sized_same}
-use Rattle.avs_sender.proofs.Learned.{due_learned, kept_learned, keys_freed, places_of, slots_of, turned_then}
+use Rattle.avs_halves.specs.Found.{due_found, is_filled}
+use Rattle.avs_halves.specs.Over.{IsOver}
+use Rattle.avs_halves.proofs.Lying.{found_bit, found_held, part_is, there_is}
+use Rattle.avs_halves.proofs.Staying.{over_changed, sets_stay}
+use Rattle.avs_sender.specs.Held.{SenderHalf, held, parts_of}
+use Rattle.avs_sender.specs.Kept.{IsKept}
+use Rattle.avs_sender.specs.Meaning.{due_of, found_by, found_of, freeing_place, no_places, places_at, sender_of}
+use Rattle.avs_sender.specs.Places.{no_places_for, places_for}
+use Rattle.avs_sender.proofs.Meanings.{bits_due}
+use Rattle.avs_sender.proofs.Arming.{with_sets}
 
--- ---- it has left, and its entries are given up
+never : (b : Bool) → b ≡ false → b ≡ true → ⊥
+never b off on = cc
 
-pub session_left : (n : Note) (s : Session) → IsSessionOf n s → IsSessionOf n (left s Logging)
-session_left n s is = record {
-  number = is.number;
-  reverse = is.reverse;
-  sender = is.sender;
-  last = is.last;
-  known = is.known;
-  mark = is.mark;
-  role = λ on. absurd (cc);
-  acting = λ on. absurd (cc);
-  idle = is.idle;
-}
+-- ---- what is due with some segments more
 
-pub same_sized : (places : List SetPlaces) → AreSizedAs places places
-same_sized places = record { count = refl; each = λ set. sized_same (set_places_at places set) (set_places_at places set) refl }
+-- a bit is due, and no place frees it
+abbrev pub zero_due : Bool → Option ℕ
+zero_due b = cond b (Some 0) None
 
-none_left : (old new : Queue) (last : ℕ) → (0 < length old.entries → next_place old ≡ last + 1) → Advances old last new → new.entries ≡ []
-none_left old new last next adv = elim (cases_lt 0 (length old.entries)) [
-  | inl some ↦ adv.empties (omega (arith, next some))
-  | inr none ↦ empty new.entries (ap (λ (l : List Entry). length l) adv.entries ∙ length-drop (last + 1 - old.first) old.entries ∙ (let z : length old.entries - (last + 1 - old.first) ≡ 0 = omega arith in z))
-]
+abbrev pub placed_at : Bool → ℕ → Option ℕ
+placed_at b k = cond b (Some k) None
+
+all_one : (low was key now : Bool) (k : ℕ) → now ≡ cond key true was → (key ≡ true → low ≡ true)
+    → zero_due (low && now) ≡ zero_of (cond (is_some (placed_at (low && was) k)) (placed_at (low && was) k) (zero_due key))
+all_one true true true now k is inside = rw is refl
+all_one true true false now k is inside = rw is refl
+all_one true false true now k is inside = rw is refl
+all_one true false false now k is inside = rw is refl
+all_one false was true now k is inside = absurd (no (inside refl))
   where
-    empty : (l : List Entry) → length l ≡ 0 → l ≡ []
-    empty [] none = refl
-    empty (x ∷ xs) none = absurd (omega (arith, none))
+    no : false ≡ true → ⊥
+    no is = cc
+all_one false was false now k is inside = refl
 
--- whether it was in a session or not
-pub gives_up : (h : SenderHalf) (queue : Queue) → IsKept h → Advances h.queue h.session.last queue → queue.entries ≡ []
-gives_up h queue kept adv = none_left h.queue queue h.session.last (next (cases_Bool (is_session h.session.state))) adv
+some_one : (low was key now : Bool) (k : ℕ) → (key ≡ true → (now ≡ was) ⊎ (now ≡ true)) → (key ≡ false → now ≡ was)
+    → zero_due (low && now) ≡ zero_of (cond (is_some (placed_at (low && was) k)) (placed_at (low && was) k) (zero_due (low && (key && now))))
+some_one false was key now k inside outside = refl
+some_one true true true true k inside outside = refl
+some_one true true true false k inside outside = elim (inside refl) [ inl is ↦ absurd (cc) | inr is ↦ absurd (cc) ]
+some_one true true false now k inside outside = rw (outside refl) refl
+some_one true false true true k inside outside = refl
+some_one true false true false k inside outside = refl
+some_one true false false now k inside outside = rw (outside refl) refl
+
+twice_one : (d : Option ℕ) → zero_of (zero_of d) ≡ zero_of d
+twice_one None = refl
+twice_one (Some k) = refl
+
+pub zeros_twice : (d : Due) → zeros (zeros d) ≡ zeros d
+zeros_twice d = fun_ext (λ set. fun_ext (λ seg. twice_one (d set seg)))
+
+-- keys are segments of the sets
+pub record AreInside (sets : List SetBits) (keys : Keys) : Type 0 where
+  pub each : (set seg : ℕ) → keys set seg ≡ true → nat_lt seg (set_at sets set).bits.segs ≡ true
+
+module _ {T E : Type 0} (keys : Keys) (h : SenderHalf) (sets : List SetBits) (x : T) (c : ChangesSets {E = E} keys true h.sets (Ok x) sets) (inside : AreInside h.sets keys) where
+  pub all_due : bits_due sets ≡ zeros (noted (due_of h) keys)
+  all_due = fun_ext (λ set. fun_ext (λ seg.
+      ap (λ (n : ℕ). zero_due (nat_lt seg n && set_of (set_at sets set).bits seg)) (ap (λ (s : SetBits). s.bits.segs) (c.part set).rest)
+      ∙ all_one (nat_lt seg (set_at h.sets set).bits.segs) (set_of (set_at h.sets set).bits seg) (keys set seg) (set_of (set_at sets set).bits seg) (freeing_place h.session (places_at h set) seg)
+      ((c.done set).memory seg) (inside.each set seg)))
+
+-- ---- the memory and the volumes of a half in no session
+
+module _ {T E : Type 0} (keys : Keys) (on : Bool) (h : SenderHalf) (sets : List SetBits) (r : Result T E) (c : ChangesSets keys on h.sets r sets) where
+  slot_is : (set : ℕ) → (set_at sets set).slot ≡ (set_at h.sets set).slot
+  slot_is set = ap (λ (s : SetBits). s.slot) (c.part set).rest
+
+  segs_is : (set : ℕ) → (set_at sets set).bits.segs ≡ (set_at h.sets set).bits.segs
+  segs_is set = ap (λ (s : SetBits). s.bits.segs) (c.part set).rest
+
+  pub kept_changed : IsKept h → is_session h.session.state ≡ false → IsKept (with_sets h sets)
+  kept_changed kept off = record {
+    count = kept.count ∙ sym c.count;
+    few = omega (arith, kept.few, c.count);
+    slots = record {
+      low = λ set there. subst (λ (slot : ℕ). slot < 16) (sym (slot_is set)) (kept.slots.low set (omega (arith, there, c.count)));
+      apart = λ set other there also same. kept.slots.apart set other (omega (arith, there, c.count)) (omega (arith, also, c.count)) (sym (slot_is other) ∙ same ∙ slot_is set);
+    };
+    places = λ set there. let p = kept.places set (omega (arith, there, c.count)) in record {
+      segs = p.segs ∙ sym (segs_is set);
+      waiting = p.waiting ∙ sym (segs_is set);
+      room = p.room;
+    };
+    note = kept.note;
+    fits = kept.fits;
+    session = kept.session;
+    sends = λ on. absurd (never (is_session h.session.state) off on);
+    away = kept.away;
+  }
+
+  pub over_noted : (below new : BelowSeen) → new.sizes ≡ below.sizes → IsOver below h.sets → IsOver new sets
+  over_noted below new sizes over = over_changed below new h.sets sets sizes c.count (sets_stay keys on h.sets sets r c) over
+
+  -- a half is found with other bits, by a note with its contents
+  pub found_changed : (below new : BelowSeen) (n : Note) (number : ℕ) (role : HalfRole) (due : Due) → n.session ≡ number → n.role ≡ role → n.empty ≡ h.note.empty → new.images ≡ below.images
+      → due_found new (map part_of sets) ≡ zeros due
+      → found_by n (parts_of (held new (with_sets h sets))) ≡ found_of (record (sender_of (held below h)) { number = number; role = role; due = due })
+  found_changed below new n number role due session same empty images is = λ i. record {
+    on = λ set. count set i;
+    here = λ set. count set i;
+    contents = λ set. count set i && is_filled (empty i) (slot set i);
+    images = λ set. cond (count set i) (get_or (images i) (vol set i) []) [];
+    number = session i;
+    role = same i;
+    state = Logging;
+    last = 0;
+    known = 0;
+    taken = 0;
+    applied = 0;
+    due = is i;
+    held = [];
+    kept = no_sets;
+  }
+    where
+      count : (set : ℕ) → nat_lt set (length (map part_of sets)) ≡ nat_lt set (length h.sets)
+      count set = there_is sets set ∙ ap (λ (n : ℕ). nat_lt set n) c.count
+
+      slot : (set : ℕ) → (get_or (map part_of sets) set no_part).slot ≡ (set_at h.sets set).slot
+      slot set = ap (λ (m : MirrorSet). m.slot) (part_is sets set) ∙ slot_is set
+
+      vol : (set : ℕ) → (get_or (map part_of sets) set no_part).vol ≡ (set_at h.sets set).vol
+      vol set = ap (λ (m : MirrorSet). m.vol) (part_is sets set) ∙ (sets_stay keys on h.sets sets r c set).vol
+
+-- ---- what is found of it
+
+pub step_changed : {T E : Type 0} (keys : Keys) (on : Bool) (old sets : List SetBits) (x : T) → ChangesSets {E = E} keys on old (Ok x) sets → AreInStep old → AreInStep sets
+step_changed keys on old sets x c step = record { told = λ t. (c.part t).lasts.told (step.told t); step = λ t. (c.done t).step (step.told t) (step.step t) }
+
+-- all bits are found
+pub found_all : {T E : Type 0} (keys : Keys) (below new : BelowSeen) (h : SenderHalf) (sets : List SetBits) (x : T) (c : ChangesSets {E = E} keys true h.sets (Ok x) sets) → AreInside h.sets keys → AreInStep h.sets → new.sizes ≡ below.sizes → IsOver below h.sets
+    → due_found new (map part_of sets) ≡ zeros (noted (due_of h) keys)
+found_all {T = T} {E = E} keys below new h sets x c inside step sizes over =
+    fun_ext (λ set. fun_ext (λ seg. ap (λ (b : Bool). zero_due b) (found_bit new sets (step_changed keys true h.sets sets x c step) (over_noted keys true h sets (Ok x) c below new sizes over) set seg)))
+    ∙ all_due keys h sets x c inside
+
+-- some are
+module _ {T E : Type 0} (keys : Keys) (below new : BelowSeen) (h : SenderHalf) (sets : List SetBits) (r : Result T E) (c : ChangesSets keys true h.sets r sets) (step : AreInStep h.sets) where
+  abbrev holds : (t : ℕ) → HoldsPart (keys t) true (set_of (set_at h.sets t).bits) (set_at sets t).bits.disk.image (set_at h.sets t).bits.segs
+  holds t = (c.part t).disk (step.told t) (step.step t)
+
+  -- those that are on the disk, of the keys
+  abbrev pub some_keys : Keys
+  some_keys t seg = nat_lt seg (set_at h.sets t).bits.segs && (keys t seg && (holds t).set seg)
+
+  pub found_some : new.sizes ≡ below.sizes → IsOver below h.sets → due_found new (map part_of sets) ≡ zeros (noted (due_of h) some_keys)
+  found_some sizes over = fun_ext (λ t. fun_ext (λ seg.
+      ap (λ (b : Bool). zero_due b) (found_held new sets (λ t s. (holds t).set s)
+      (λ t. subst (λ (n : ℕ). IsOnDisk (set_at sets t).bits.disk.image n (holds t).set) (sym (ap (λ (s : SetBits). s.bits.segs) (c.part t).rest)) (holds t).held)
+      (over_noted keys true h sets r c below new sizes over) t seg)
+      ∙ ap (λ (n : ℕ). zero_due (nat_lt seg n && (holds t).set seg)) (ap (λ (s : SetBits). s.bits.segs) (c.part t).rest)
+      ∙ some_one (nat_lt seg (set_at h.sets t).bits.segs) (set_of (set_at h.sets t).bits seg) (keys t seg) ((holds t).set seg) (freeing_place h.session (places_at h t) seg)
+      ((holds t).part.inside seg) ((holds t).part.outside seg)))
+
+  within_keys : (a b c : Bool) → (a && (b && c)) ≡ true → b ≡ true
+  within_keys true true c is = refl
+  within_keys true false c is = is
+  within_keys false b c is = absurd (no is)
+    where
+      no : false ≡ true → ⊥
+      no is = cc
+
+  pub some_within : (t seg : ℕ) → some_keys t seg ≡ true → keys t seg ≡ true
+  some_within t seg on = within_keys (nat_lt seg (set_at h.sets t).bits.segs) (keys t seg) ((holds t).set seg) on
+
+-- places are made for the segments of sets, which do not change
+pub places_same : {T E : Type 0} (keys : Keys) (on : Bool) (places : ℕ) (old new : List SetBits) (r : Result T E) → ChangesSets keys on old r new → places_for places new ≡ places_for places old
+places_same keys on places old new r c = ext_get_or no_places (places_for places new) (places_for places old)
+    (length-map new (λ s. no_places_for places s.bits.segs) ∙ c.count ∙ sym (length-map old (λ s. no_places_for places s.bits.segs)))
+    (λ set low. at set (omega (arith, low, length-map new (λ s. no_places_for places s.bits.segs))))
   where
-    next : (is_session h.session.state ≡ true) ⊎ (is_session h.session.state ≡ false) → 0 < length h.queue.entries → next_place h.queue ≡ h.session.last + 1
-    next (inl on) some = (kept.sends on).queue.next some
-    next (inr off) some = absurd (let none : length h.queue.entries ≡ 0 = ap (λ (l : List Entry). length l) (kept.away off) in omega arith)
-
-pub kept_stopped : {T E : Type 0} (h : SenderHalf) (keys : Keys) (on : Bool) (r : Result T E) (sets : List SetBits) (places : List SetPlaces) (queue : Queue) → IsKept h → ChangesSets keys on h.sets r sets → AreSizedAs h.places places
-    → Advances h.queue h.session.last queue → IsKept (half_with h sets places (left h.session Logging) queue)
-kept_stopped h keys on r sets places queue kept c sized adv = record {
-  count = sized.count ∙ kept.count ∙ sym c.count;
-  few = omega (arith, kept.few, c.count);
-  slots = slots_of h.sets sets keys on r c kept.slots;
-  places = λ set low. places_of h.sets sets h.places places h.queue.limits.writes queue.limits.writes set sized (ap (λ (s : SetBits). s.bits.segs) (c.part set).rest) (ap (λ l. l.writes) adv.limits) (kept.places set (omega (arith, low, c.count)));
-  note = kept.note;
-  fits = kept.fits;
-  session = session_left h.note h.session kept.session;
-  sends = λ in'. absurd (cc);
-  away = λ off. gives_up h queue kept adv;
-}
-
--- ---- a half that learns a place
-
-pub stops_kept : {T E : Type 0} (h : SenderHalf) (writes : ℕ) (keys : Keys) (r : Result T E) (sets : List SetBits) (places : List SetPlaces) (session : Session) (queue : Queue) → IsKept h × (writes ≡ h.queue.limits.writes)
-    → ChangesSets keys false h.sets r sets → AreSizedAs h.places places → session ≡ left h.session Logging → Advances h.queue h.session.last queue → IsKept (half_with h sets places session queue) × (writes ≡ queue.limits.writes)
-stops_kept h writes keys r sets places session queue kept c sized is adv =
-    (subst (λ (s : Session). IsKept (half_with h sets places s queue)) (sym is) (kept_stopped h keys false r sets places queue kept.0 c sized adv), kept.1 ∙ ap (λ (l : Limits). l.writes) (sym adv.limits))
-
-pub learns_kept : (h : SenderHalf) (applied writes : ℕ) (sets : List SetBits) (places : List SetPlaces) (session : Session) (queue : Queue) → IsKept h × (writes ≡ h.queue.limits.writes) → is_session h.session.state ≡ true → applied ≤ h.session.last
-    → ChangesSets {T = Unit {0}} {E = Unit {0}} (learned_keys h applied) false h.sets (Ok tt) sets → FreesEach h.places (known_then h.session applied) places → AreSizedAs h.places places → session ≡ ticked h.session applied → Advances h.queue (known_then h.session applied) queue
-    → IsKept (half_with h sets places session queue) × (writes ≡ queue.limits.writes)
-learns_kept h applied writes sets places session queue kept on given c freed sized is adv =
-    (subst (λ (s : Session). IsKept (half_with h sets places s queue)) (sym is) (kept_learned h applied kept.0 on given sets places queue c freed sized adv), kept.1 ∙ ap (λ (l : Limits). l.writes) (sym adv.limits))
-
-pub has_learned : (h : SenderHalf) (applied : ℕ) (sets : List SetBits) (places : List SetPlaces) (session : Session) (queue : Queue) (b : Bool) → IsKept h → is_session h.session.state ≡ true → applied ≤ h.session.last
-    → ChangesSets {T = Unit {0}} {E = Unit {0}} (learned_keys h applied) false h.sets (Ok tt) sets → FreesEach h.places (known_then h.session applied) places → AreSizedAs h.places places → session ≡ ticked h.session applied → Advances h.queue (known_then h.session applied) queue
-    → b ≡ turns h.session.state session.state → HasLearned h applied b (half_with h sets places session queue)
-has_learned h applied sets places session queue b kept on given c freed sized is adv turn = record {
-  rest = ap (λ (s : Session). half_with h sets places s queue) is;
-  bits = c;
-  queue = adv;
-  turned = turned_then h (half_with h sets places session queue) applied b (kept.session.acting on) (ap (λ (s : Session). s.state) is) (turn ∙ ap (λ (s : Session). turns h.session.state s.state) is);
-  due = ap (λ (s : Session). due_of (half_with h sets places s queue)) is ∙ due_learned h applied kept on given sets places queue c freed sized adv;
-  number = kept.session.number;
-}
-
-pub learns_in_part : {E : Type 0} (h : SenderHalf) (applied : ℕ) (sets : List SetBits) (places : List SetPlaces) (session : Session) (queue : Queue) (e : E) → IsKept h → is_session h.session.state ≡ true
-    → ChangesSets {T = Unit {0}} (learned_keys h applied) false h.sets (Err e) sets → session ≡ left h.session Logging → queue.limits ≡ h.queue.limits → LearnsInPart h applied e (half_with h sets places session queue)
-learns_in_part h applied sets places session queue e kept on c is limits = record {
-  rest = ap (λ (s : Session). half_with h sets places s queue) is;
-  bits = c;
-  limits = limits;
-  keys = keys_freed h applied kept on;
-  number = kept.session.number;
-}
+    at : (set : ℕ) → set < length new → get_or (places_for places new) set no_places ≡ get_or (places_for places old) set no_places
+    at set low = within (λ (s : SetBits). no_places_for places s.bits.segs) new set no_set no_places low
+        ∙ ap (λ (s : SetBits). no_places_for places s.bits.segs) (c.part set).rest
+        ∙ sym (within (λ (s : SetBits). no_places_for places s.bits.segs) old set no_set no_places (omega (arith, low, c.count)))

@@ -1,38 +1,31 @@
 -- A sender learns that places were applied: what it stands for, and what is found where a disk failed.
-use Rattle.std.proofs.Common.{◌≡◌, ◌⊎◌, inl, inr, ℕ, ◌+◌, ◌<◌, ◌≤◌, ◌^◌, max, Bool, true, false, ◌&&◌, not, cond, eqb, List, [], length, map, get_or, Result, Ok, Err, Option, None, Some, OnOk, OnErr, ◌∙◌, sym, refl, ap, subst, arith}
-use Rattle.std.specs.Prelude.{nat_lt, nat_le}
+use Rattle.std.proofs.Common.{◌≡◌, ◌⊎◌, inl, inr, ℕ, ◌≤◌, max, Bool, true, false, ◌&&◌, not, cond, List, [], length, map, get_or, Result, Ok, Err, None, Some, OnOk, OnErr, ◌∙◌, sym, refl, ap, subst, arith}
+use Rattle.std.specs.Prelude.{nat_lt}
 use Rattle.std.proofs.Math.Path.{fun_ext}
-use Rattle.std.proofs.lemmas.Bool.{cases_lt}
-use Rattle.std.proofs.lemmas.Bool.Decides.{nat_tests}
-use Rattle.std.proofs.lemmas.List.{get_or_past}
 use Rattle.avs_dev.specs.Below.{BelowSeen, IsToldAt}
-use Rattle.avs_dev.specs.Devices.{OneFails}
-use Rattle.avs_dev.proofs.Going.{lasts_same, spared_same}
 use Rattle.avs_bits.specs.BitSet.{set_of}
-use Rattle.avs_refs.specs.Places.{greatest_at, is_freed}
 use Rattle.avs_mqueue.specs.Queue.{Queue, Advances}
 use Rattle.avs_model.specs.declared.answer.Refusal.TheVariants as refusal
-use Rattle.avs_mirrors.specs.Due.{Due, Keys, frees, freed_due, zeros}
-use Rattle.avs_mirrors.specs.Half.{HalfState, HalfRole, State, Logging, Replicating, Sender, no_sets, is_session, with_freed, with_known}
+use Rattle.avs_mirrors.specs.Due.{Keys, frees, freed_due, zeros}
+use Rattle.avs_mirrors.specs.Half.{HalfRole, Logging, Replicating, Sender, no_sets, is_session, with_freed, with_known}
 use Rattle.avs_sync.specs.Note.{IsNote, NoteKeeps, may_be, note_at}
 use Rattle.avs_sync.specs.Session.{ticked, left}
 use Rattle.avs_sync.specs.declared.note.Note.{Note}
-use Rattle.avs_sync.specs.declared.session.Session.{Session}
-use Rattle.avs_halves.specs.SetBits.{SetBits, AreInStep, set_at, disk_at, has_bit, no_set, part_of}
+use Rattle.avs_halves.specs.SetBits.{SetBits, AreInStep, set_at, has_bit, part_of}
 use Rattle.avs_halves.specs.Changing.{ChangesSets}
 use Rattle.avs_halves.specs.Writing.{PutsNote}
-use Rattle.avs_sender.specs.Held.{SenderHalf, SenderHeld, SetPlaces, held, parts_of}
+use Rattle.avs_sender.specs.Held.{SenderHalf, SetPlaces, held, parts_of}
 use Rattle.avs_sender.specs.Kept.{IsKept}
-use Rattle.avs_halves.specs.Going.{BelowStays, SetStays}
+use Rattle.avs_halves.specs.Going.{BelowStays}
 use Rattle.avs_halves.specs.Over.{IsOver}
 use Rattle.avs_halves.specs.Found.{due_found, is_filled, stored_bytes}
 use Rattle.avs_halves.proofs.Staying.{below_noted, below_same, over_changed, sets_stay, told_note}
 use Rattle.avs_halves.proofs.Lying.{found_bit}
-use Rattle.avs_sender.specs.Meaning.{IsSenderInStep, due_of, sender_of, found_again, found_by, found_of, freeing_place, places_at, waits}
-use Rattle.avs_sender.specs.Going.{SenderStays, NoneFailed}
+use Rattle.avs_sender.specs.Meaning.{IsSenderInStep, due_of, sender_of, found_again, found_by, found_of, freeing_place, places_at}
+use Rattle.avs_sender.specs.Going.{SenderStays}
 use Rattle.avs_sender.specs.Learning.{IsStopped, half_with, half_stopped, known_then, learned_keys}
-use Rattle.avs_sender.specs.Ticking.{FindsFreed, IsNotedTick, IsTicked, IsTickStopped, Knows, MayLearn, half_noted, note_marked}
-use Rattle.avs_sender.proofs.Meanings.{again_is, bits_due, zeros_are}
+use Rattle.avs_sender.specs.Ticking.{FindsFreed, IsTicked, IsTickStopped, Knows, MayLearn, half_noted, note_marked}
+use Rattle.avs_sender.proofs.Meanings.{again_is, zeros_are}
 use Rattle.avs_sender.proofs.Founds.{bits, bit_is, either, found_then, gone_key, gone_one, images_same, others}
 
 -- ---- sets of which the bits alone have changed

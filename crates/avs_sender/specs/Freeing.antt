@@ -1,6 +1,6 @@
 -- Segments that a known place frees: their bits are cleared.
 use Rattle.std.specs.Prelude.{◌≡◌, ℕ, ◌-◌, ◌<◌, ◌≤◌, ◌==◌, ◌&&◌, not, nat_lt, Bool, false, List, length, slice_index_or, Ok, All}
-use Rattle.avs_refs.specs.Places.{Places, IsAbove, IsDrained, Drains, Frees, greatest_at, is_freed}
+use Rattle.avs_refs.specs.Places.{IsAbove, IsDrained, Drains, Frees, greatest_at, is_freed}
 use Rattle.avs_mirrors.specs.Due.{Segments, Keys}
 use Rattle.avs_halves.specs.SetBits.{SetBits}
 use Rattle.avs_halves.specs.Changing.{ChangesSets, keys_of}

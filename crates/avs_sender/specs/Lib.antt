@@ -8,7 +8,12 @@ pub mod PartsView
 pub mod Loading
 pub mod SenderView
 pub mod Asking
+pub mod Lending
+pub mod Disks
 pub mod Waits
 pub mod Freeing
 pub mod Learning
 pub mod Ticking
+pub mod Refusing
+pub mod Noting
+pub mod Beginning

@@ -1,11 +1,12 @@
 -- How a sender is found on its parts.
 use Rattle.std.specs.Prelude.{◌≡◌, ◌⊎◌, ℕ, ◌<◌, not, List, [], length, map, Some, Result, Ok, Err}
-use Rattle.avs_dev.specs.Seen.{IsTold}
-use Rattle.avs_dev.specs.Below.{BelowSeen, IsToldAt}
+use Rattle.avs_dev.specs.Seen.{Seen, IsTold}
+use Rattle.avs_dev.specs.Below.{IsToldAt}
 use Rattle.avs_dev.specs.declared.back.Why.{Why}
 use Rattle.avs_dev.specs.declared.back.Why.TheVariants.{BadRecord, NoMemory}
 use Rattle.avs_code.specs.Rules.{first_broken}
 use Rattle.avs_mqueue.specs.Queue.{Queue}
+use Rattle.avs_model.specs.declared.event.Host.{Host}
 use Rattle.avs_model.specs.declared.entry.Limits.{Limits}
 use Rattle.avs_mirrors.specs.Half.{Logging, is_receiver}
 use Rattle.avs_sync.specs.Note.{IsNote, note_rules}
@@ -16,9 +17,9 @@ use Rattle.avs_halves.specs.SetBits.{SetBits}
 use Rattle.avs_halves.specs.Loading.{LoadsSets, SetsRefused}
 use Rattle.avs_halves.specs.Found.{part_at}
 use Rattle.avs_halves.specs.Over.{AreLoadable}
-use Rattle.avs_sender.specs.Held.{SenderHeld, SenderParts, SetPlaces, parts_of}
+use Rattle.avs_sender.specs.Held.{SenderHalf, SenderHeld, SenderParts, SetPlaces, parts_of}
 use Rattle.avs_sender.specs.Meaning.{IsSenderInStep, sender_of, found_on}
-use Rattle.avs_sender.specs.Places.{PlacesFor}
+use Rattle.avs_sender.specs.Places.{places_for}
 
 -- its sets may be loaded
 abbrev pub IsLoadable : SenderParts → Type 0
@@ -59,15 +60,18 @@ pub record IsEmptyQueue (limits : Limits) (queue : Queue) : Type 0 where
   pub limits_are : queue.limits ≡ limits
 
 -- what a half has in memory for its sets
-pub record MakesMemory (below : BelowSeen) (sets : List SetBits) (limits : Limits) (places : List SetPlaces) (queue : Queue) : Type 0 where
-  pub places_are : PlacesFor below (map (λ s. s.vol) sets) limits.writes places
+pub record MakesMemory (sets : List SetBits) (limits : Limits) (places : List SetPlaces) (queue : Queue) : Type 0 where
+  pub places_are : places ≡ places_for limits.writes sets
   pub queue_is : IsEmptyQueue limits queue
 
 -- sets as they are found, with places for their segments and an empty queue
-pub record OpensHalf (below : BelowSeen) (parts : List MirrorSet) (limits : Limits) (sets : List SetBits) (places : List SetPlaces) (queue : Queue) : Type 0 where
-  pub sets_are : LoadsSets below.sizes parts sets
-  pub places_are : PlacesFor below (map (λ s. s.vol) sets) limits.writes places
-  pub queue_is : IsEmptyQueue limits queue
+pub record OpensHalf (sizes : List ℕ) (parts : List MirrorSet) (limits : Limits) (sets : List SetBits) (places : List SetPlaces) (queue : Queue) : Type 0 where
+  pub sets_are : LoadsSets sizes parts sets
+  pub memory : MakesMemory sets limits places queue
+
+-- the half that is made of them
+abbrev pub half_found : Host → Seen → Note → List SetBits → List SetPlaces → Queue → SenderHalf
+half_found host land n sets places queue = record { host = host; sets = sets; places = places; land = land; note = n; session = found_session n; queue = queue }
 
 -- the bits of a set were not found; or there was no memory
 abbrev pub HalfRefused : List ℕ → List MirrorSet → Why → List MirrorSet → Type 0

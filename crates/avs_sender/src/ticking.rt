@@ -11,7 +11,7 @@ use crate::freeing::free_all;
 use crate::half::Half;
 use crate::sender::Sender;
 use avs_dev::{Below, Disk};
-use avs_halves::{is_session, write_note};
+use avs_halves::write_note;
 use avs_model::{Refusal, State, Word};
 use avs_seg::Failed;
 use avs_sync::Note;
@@ -33,13 +33,6 @@ fn turns(before: State, after: State) -> bool
 }
 
 impl<D: Disk> Half<D> {
-    // Whether it is in a session.
-    pub(crate) fn in_session(&self) -> bool
-        ensures { result ≡ is_session self.now.session.state }
-    {
-        is_session(self.session.state)
-    }
-
     // A disk failed: it is in no session any more, and gives its entries up.
     pub(crate) fn stop(&mut self)
         ensures { IsStopped self.old self.new }

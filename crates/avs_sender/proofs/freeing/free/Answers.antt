@@ -1,4 +1,4 @@
-use Rattle.std.proofs.Common.{◌≡◌, ◌&&◌, true, false, None, Some, sym, subst, arith}
+use Rattle.std.proofs.Common.{◌≡◌, ◌&&◌, true, false, None, sym, subst, arith}
 use Rattle.std.proofs.lemmas.Result.{err_from_is_err_and}
 use Rattle.avs_refs.specs.Places.{Places, GoesOnDraining}
 use Rattle.avs_sender.specs.SenderView.{set_places}

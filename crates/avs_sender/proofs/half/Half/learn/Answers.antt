@@ -1,7 +1,6 @@
-use Rattle.std.proofs.Common.{◌≡◌, ◌==◌, ℕ, max, true, false, List, length, map, Ok, Err, sym, subst, ap, ◌∙◌, rules, arith}
+use Rattle.std.proofs.Common.{◌≡◌, ◌==◌, ℕ, max, false, List, map, Ok, Err, sym, subst, rules, arith}
 use Rattle.std.specs.Vec.{with_items}
 use Rattle.std.proofs.lemmas.List.{with_items_is}
-use Rattle.avs_mirrors.specs.Half.{is_session}
 use Rattle.avs_halves.specs.Changing.{ChangesSets}
 use Rattle.avs_sender.specs.declared.tracked.Tracked.{Tracked}
 use Rattle.avs_sender.specs.SenderView.{set_places}
@@ -10,7 +9,7 @@ use Rattle.avs_sender.specs.Kept.{IsKept}
 use Rattle.avs_sender.specs.Freeing.{AreSizedAs, FreesEach, freed_keys}
 use Rattle.avs_sender.specs.Learning.{HasLearned, LearnsInPart, half_with}
 use Rattle.avs_sender.proofs.Changes.{changes_ok}
-use Rattle.avs_sender.proofs.Noted.{has_learned, learns_in_part, learns_kept, stops_kept}
+use Rattle.avs_sender.proofs.LearnedHalf.{has_learned, learns_in_part, learns_kept, stops_kept}
 use Rattle.avs_sender.proofs.half.Half.learn.Goals as goal
 
 pub invariant_of-self : goal.invariant_of-self

@@ -1,9 +1,8 @@
-use Rattle.std.proofs.Common.{◌≡◌, true, false, Result, OnOk, OnErr, ◌∙◌, sym, subst, ap}
+use Rattle.std.proofs.Common.{◌≡◌, OnOk, OnErr, ◌∙◌, sym, subst, ap}
 use Rattle.std.proofs.lemmas.Result.{err_from_is_err_and}
 use Rattle.avs_model.specs.declared.answer.Refusal.TheVariants as refusal
-use Rattle.avs_mirrors.specs.Half.{Replicating, is_session}
+use Rattle.avs_mirrors.specs.Half.{Replicating}
 use Rattle.avs_halves.specs.Writing.{PutsNote}
-use Rattle.avs_sync.specs.Session.{ticked}
 use Rattle.avs_sender.specs.Held.{SenderHalf, held}
 use Rattle.avs_sender.specs.Meaning.{due_of}
 use Rattle.avs_sender.specs.Learning.{IsStopped, IsTurned}
