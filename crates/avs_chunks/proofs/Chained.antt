@@ -1,12 +1,12 @@
 -- One call on the contents after another.
-use Rattle.std.proofs.Common.{◌≡◌, ◌≢◌, ◌⊎◌, inl, inr, ℕ, ◌+◌, ◌-◌, ◌/◌, ◌<◌, ◌≤◌, Bool, IsTrue, Result, Ok, Err, ◌∙◌, sym, refl, ap, subst, arith}
+use Rattle.std.proofs.Common.{◌≡◌, ◌≢◌, ◌⊎◌, inl, inr, ℕ, ◌+◌, ◌-◌, ◌/◌, ◌<◌, ◌≤◌, Bool, IsTrue, List, Result, Ok, Err, ◌∙◌, sym, refl, ap, subst, arith}
 use Rattle.std.proofs.lemmas.Bool.{cases_lt, cases_eq, false≢true}
 use Rattle.std.proofs.lemmas.Result.{on_ok_weaker, on_err_weaker}
 use Rattle.avs_seg.specs.declared.fault.Failed.{Failed}
 use Rattle.avs_seg.specs.Segment.{seg_len}
 use Rattle.avs_dev.specs.Seen.{Seen}
 use Rattle.avs_dev.proofs.Going.{all_then, all_same}
-use Rattle.avs_chunks.specs.States.{SetsOne, AreSame, Splits}
+use Rattle.avs_chunks.specs.States.{SetsOne, AreSame, Splits, state_in}
 use Rattle.avs_chunks.specs.ChunkSet.{ChunkSet, state_of, disk_state, chunks_of, IsKnown, CanSave}
 use Rattle.avs_chunks.specs.Disks.{ChunkDisk, Master, Shadow, Bitmap, disk_at, raised, Adds, settle_work, save_work, range_work}
 use Rattle.avs_chunks.specs.Calls.{KeepsSet, Settles, DoesNothing, Saves}
@@ -109,6 +109,12 @@ module _ (s s' : ChunkSet) (m m' : Seen) (c : ℕ) (there : c < chunks_of s) whe
     ]) (p.stopped kn);
     known = p.known;
     memory = on_ok_weaker r (λ rem. splits_one (state_of s) (state_of s') (chunks_of s) c (record { now = rem.now; others = λ k lt ne. rem.others k ne })) p.memory;
+    some = on_err_weaker r (λ same. record {
+      upto = c;
+      low = omega arith;
+      high = omega arith;
+      splits = splits_none (state_of s) (state_of s') (chunks_of s) c (record { each = λ k lt. ap (λ (l : List ℕ). state_in l k) same });
+    }) p.unset;
     adds = adds_as (disk_at s m) (disk_at s' m') (settle_work (state_of s c) (seg_len c s.blocks)) (range_work s c (c + 1 - c)) r (λ d.
         sym (sum_one (λ k. save_work (state_of s k) (seg_len k s.blocks) d) c ∙ cond_not (state_of s c) 2 0 _ whole)) p.adds;
   }
@@ -120,6 +126,7 @@ nothing_one s m c x there is = record {
   stopped = λ kn. tt;
   known = λ kn. kn;
   memory = record { inside = λ k lt low high. (let same : k ≡ c = omega (arith, low, high) in ap (state_of s) same) ∙ is; outside = λ k lt out. refl };
+  some = tt;
   adds = record {
     done = λ d. sym (raised-none (disk_at s m d).written _ (sum_one (λ k. save_work (state_of s k) (seg_len k s.blocks) d) c ∙ cond_is (state_of s c) 2 0 _ is));
     most = tt;
@@ -145,6 +152,7 @@ saves_none s m first = record {
   stopped = λ kn. tt;
   known = λ kn. kn;
   memory = record { inside = λ k lt low high. absurd (omega (arith, low, high)); outside = λ k lt out. refl };
+  some = tt;
   adds = record {
     done = λ d. sym (raised-none (disk_at s m d).written _ (sum_none (λ k. save_work (state_of s k) (seg_len k s.blocks) d) first));
     most = tt;
@@ -192,6 +200,12 @@ module _ (s now new : ChunkSet) (m mn m' : Seen) (first c : ℕ) (low : first �
     }) (q.stopped (so.known kn));
     known = λ kn. q.known (so.known kn);
     memory = on_ok_weaker r (λ one. splits_then (state_of s) (state_of now) (state_of new) (chunks_of s) first c (c + 1) low (omega arith) so.memory (splits_on (state_of now) (state_of new) (c + 1) (omega arith) one)) q.memory;
+    some = on_err_weaker r (λ f. record {
+      upto = f.upto;
+      low = omega (arith, low, f.low);
+      high = f.high;
+      splits = splits_then (state_of s) (state_of now) (state_of new) (chunks_of s) first c f.upto low f.low so.memory (splits_on (state_of now) (state_of new) f.upto f.low f.splits);
+    }) q.some;
     adds = adds_as (disk_at s m) (disk_at new m') (λ d. range_work s first (c - first) d + range_work now c (c + 1 - c) d) (range_work s first (c + 1 - first)) r work_then
         (adds_then (disk_at s m) (disk_at now mn) (disk_at new m') (range_work s first (c - first)) (range_work now c (c + 1 - c)) tt r so.adds q.adds);
   }
@@ -211,6 +225,7 @@ module _ (s now new : ChunkSet) (m mn m' : Seen) (first c : ℕ) (low : first �
         stopped = λ kn. let f = t.stopped kn in record { upto = f.upto; low = f.low; high = omega (arith, f.high, lt); splits = f.splits };
         known = λ kn. tt;
         memory = tt;
+        some = record { upto = t.some.upto; low = t.some.low; high = omega (arith, t.some.high, lt); splits = t.some.splits };
         adds = adds_wider (disk_at s m) (disk_at new m') (range_work s first (c + 1 - first)) (range_work s first (end - first)) e (λ d. sum_less (λ k. save_work (state_of s k) (seg_len k s.blocks) d) first (c + 1) end (omega (arith, low)) (omega (arith, lt))) t.adds;
       }
 

@@ -16,6 +16,7 @@ pub record SavesRange {T E : Type 0} (old : ChunkSet) (m : Seen) (first end : �
   pub stopped : IsKnown old → OnErr result (SplitsFirst (disk_state old) (disk_state new) (chunks_of old) first end)
   pub known : IsKnown old → OnOk result (IsKnown new)
   pub memory : OnOk result (Splits (state_of old) (state_of new) (chunks_of old) first end)
+  pub some : OnErr result (SplitsFirst (state_of old) (state_of new) (chunks_of old) first end)
   pub adds : Adds (disk_at old m) (range_work old first (end - first)) result (disk_at new m_new)
 
 -- the end of the chunks that a range touches
