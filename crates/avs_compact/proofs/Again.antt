@@ -1,24 +1,29 @@
 -- What a set keeps, whatever fails, once a chunk was settled.
-use Rattle.std.proofs.Common.{◌≡◌, ◌≢◌, ◌⊎◌, inl, inr, ℕ, ◌+◌, ◌*◌, ◌^◌, ◌-◌, ◌<◌, ◌≤◌, min, Bool, cond, List, length, take, Option, Some, None, is_some, Result, Ok, Err, OnOk, OnErr, refl, sym, ◌∙◌, ap, subst, arith}
+use Rattle.std.proofs.Common.{◌≡◌, ◌≢◌, ◌⊎◌, inl, inr, ℕ, ◌+◌, ◌*◌, ◌^◌, ◌-◌, ◌<◌, ◌≤◌, min, Bool, false, cond, List, length, take, Option, Some, None, is_some, Result, Ok, Err, OnOk, OnErr, refl, sym, ◌∙◌, ap, subst, arith}
 use Rattle.std.specs.Prelude.{nat_lt}
 use Rattle.std.proofs.lemmas.Bool.{cases_lt, false≢true, lt-ltb, le-ltb}
 use Rattle.avs_seg.specs.Segment.{seg_count}
 use Rattle.avs_dev.specs.Seen.{Seen}
 use Rattle.avs_flip.specs.Areas.{Areas}
+use Rattle.avs_bits.specs.Bit.{bit_of, IsPut}
 use Rattle.avs_over.specs.Slots.{Owners, used_in}
 use Rattle.avs_over.specs.Over.{OverSet}
-use Rattle.avs_compact.specs.Entries.{entry_in, entry_for, state_by, slot_by}
+use Rattle.avs_entries.specs.Entries.{entry_in, entry_for, state_by, slot_by}
+use Rattle.avs_entries.specs.Slots.{IsClean, Marks, MarksSlot}
+use Rattle.avs_entries.specs.Putting.{PutsEntry}
+use Rattle.avs_entries.specs.Tallied.{AreTallied, Changes}
+use Rattle.avs_entries.specs.declared.marks.Counts.{Counts}
+use Rattle.avs_entries.specs.declared.tally.Tally.{Tally}
+use Rattle.avs_entries.proofs.Tallied.{tally_set, reach_same, reach_none}
+use Rattle.avs_entries.specs.Counting.{IsMapped}
+use Rattle.avs_entries.proofs.Mapped.{mapped_cleared, mapped_same}
 use Rattle.avs_compact.specs.CompactSet.{disk_of}
-use Rattle.avs_compact.specs.Slots.{IsKept, IsClean, Marks, MarksSlot, ArePassed}
-use Rattle.avs_compact.specs.Steps.{TakesSlot, PutsEntry}
-use Rattle.avs_compact.specs.Tallied.{AreTallied, Changes}
-use Rattle.avs_compact.specs.declared.marks.Counts.{Counts}
-use Rattle.avs_compact.specs.declared.tally.Tally.{Tally}
+use Rattle.avs_compact.specs.Kept.{IsKept, AreHeld, ArePassed}
+use Rattle.avs_compact.specs.Steps.{TakesSlot}
 use Rattle.avs_compact.proofs.Kept.{kept_more, kept_all}
 use Rattle.avs_compact.proofs.Placed.{SetsOne, marks_new, marks_old, passed_new, passed_old}
 use Rattle.avs_compact.proofs.Settled.{IsNewEntry, target_some}
 use Rattle.avs_compact.proofs.SettlingNew.{new_entry}
-use Rattle.avs_compact.proofs.Tallied.{tally_set, reach_same, reach_none}
 
 none_some : (d : Seen) → None ≡ Some d → ⊥
 none_some d e = cc
@@ -30,9 +35,9 @@ room_again n None (Some b) room still size d e = absurd (false≢true (sym still
 room_again n (Some a) None room still size d e = absurd (none_some d e)
 room_again n (Some a) (Some b) room still size d e = subst (λ (k : Seen). n ≤ k.size) (ap (λ (x : Option Seen). disk_of x) e) (subst (λ (k : ℕ). n ≤ k) (sym size) (room a refl))
 
-pub kept_again : (shadow X : Option Seen) (own : ℕ) (areas a' : Areas) (memory M' next buffer B' : List ℕ) (blocks : ℕ) → IsKept shadow own areas memory next buffer blocks → is_some X ≡ is_some shadow → (disk_of X).size ≡ (disk_of shadow).size
-    → a' ≡ record areas { disk = a'.disk } → a'.disk.size ≡ areas.disk.size → length M' ≡ length memory → IsClean M' (seg_count blocks) → length B' ≡ length buffer → IsKept X own a' M' next B' blocks
-kept_again shadow X own areas a' memory M' next buffer B' blocks p still size place disk long clean room =
+pub kept_again : (shadow X : Option Seen) (own : ℕ) (areas a' : Areas) (blocks : ℕ) → IsKept shadow own areas blocks → is_some X ≡ is_some shadow → (disk_of X).size ≡ (disk_of shadow).size
+    → a' ≡ record areas { disk = a'.disk } → a'.disk.size ≡ areas.disk.size → IsKept X own a' blocks
+kept_again shadow X own areas a' blocks p still size place disk =
     let first : a'.first ≡ areas.first = ap (λ (a : Areas). a.first) place in
     let len : a'.len ≡ areas.len = ap (λ (a : Areas). a.len) place in
     record {
@@ -40,29 +45,27 @@ kept_again shadow X own areas a' memory M' next buffer B' blocks p still size pl
       first = first ∙ p.first;
       len = len ∙ p.len;
       fits = omega (arith, first, len, disk, p.fits);
-      entries = omega (arith, long, len, p.entries);
-      clean = clean;
-      staged = omega (arith, len, p.staged);
-      staged_clean = p.staged_clean;
-      chunk = room ∙ p.chunk;
       small = p.small;
       few = p.few;
     }
 
--- the staged entries were changed in memory
-pub kept_next : (shadow : Option Seen) (own : ℕ) (areas : Areas) (memory next N buffer : List ℕ) (blocks : ℕ) → IsKept shadow own areas memory next buffer blocks → length N ≡ length next → IsClean N (seg_count blocks) → IsKept shadow own areas memory N buffer blocks
-kept_next shadow own areas memory next N buffer blocks p long clean = record {
-  room = p.room;
-  first = p.first;
-  len = p.len;
-  fits = p.fits;
+-- the live entries, or the staged ones, were changed in memory
+pub held_again : (areas a' : Areas) (memory M' next : List ℕ) (blocks : ℕ) → AreHeld areas memory next blocks → a' ≡ record areas { disk = a'.disk } → length M' ≡ length memory → IsClean M' (seg_count blocks) → AreHeld a' M' next blocks
+held_again areas a' memory M' next blocks p place long clean =
+    let len : a'.len ≡ areas.len = ap (λ (a : Areas). a.len) place in
+    record {
+      entries = omega (arith, long, len, p.entries);
+      clean = clean;
+      staged = omega (arith, len, p.staged);
+      staged_clean = p.staged_clean;
+    }
+
+pub held_next : (areas : Areas) (memory next N : List ℕ) (blocks : ℕ) → AreHeld areas memory next blocks → length N ≡ length next → IsClean N (seg_count blocks) → AreHeld areas memory N blocks
+held_next areas memory next N blocks p long clean = record {
   entries = p.entries;
   clean = p.clean;
   staged = long ∙ p.staged;
   staged_clean = clean;
-  chunk = p.chunk;
-  small = p.small;
-  few = p.few;
 }
 
 pub clean_put : (old new : List ℕ) (chunk n : ℕ) → ((d : ℕ) → d ≢ chunk → entry_in new d ≡ entry_in old d) → chunk < n → IsClean old n → IsClean new n
@@ -116,6 +119,12 @@ module _ (memory M' : List ℕ) (chunk target slot n : ℕ) (puts : PutsEntry me
 
   pub took_tally : (own : ℕ) → entry_in memory chunk ≡ 0 → (a b : Tally) → AreTallied (entry_in memory) own n a → Changes a own 0 (entry_for target slot) b → AreTallied (entry_in M') own n b
   took_tally own none a b p q = tally_set (entry_in memory) (entry_in M') own n chunk 0 (entry_for target slot) there puts.others none puts.now (let r = reach_none own 0 (inl refl) in omega (arith, r)) a b p q
+
+  pub had_map : (map new : List ℕ) → IsMapped (entry_in memory) n map → length new ≡ length map → IsPut (bit_of map) (bit_of new) chunk (chunk + 1) false → IsMapped (entry_in M') n new
+  had_map map new m long p = mapped_cleared (entry_in memory) (entry_in M') n chunk map m (λ c lt ne. puts.others c ne) state_now new long p
+
+  pub took_map : entry_in memory chunk ≡ 0 → (map : List ℕ) → IsMapped (entry_in memory) n map → IsMapped (entry_in M') n map
+  took_map none map m = mapped_same (entry_in memory) (entry_in M') n chunk map m (λ c lt ne. puts.others c ne) state_now (λ three. omega (arith, none, three))
 
   module _ (own : ℕ) (T : Owners) (counts : Counts) (low ahead due : ℕ) (marks : Marks (entry_in memory) own n T counts) (passed : ArePassed (entry_in memory) n T low ahead due) where
     -- in a slot that the chunk had

@@ -11,19 +11,21 @@ use Rattle.avs_dev.specs.Seen.{Seen}
 use Rattle.avs_dev.proofs.Going.{all_same}
 use Rattle.avs_over.specs.Slots.{Owners, owner_at, used_in, given_to}
 use Rattle.avs_over.specs.Over.{OverSet, slots, used}
-use Rattle.avs_compact.specs.Entries.{slot_by, entry_for, entry_in}
-use Rattle.avs_compact.specs.CompactSet.{CompactSet, disk_of, entry_of, next_of, chunks_of, in_slot, room_of, is_own, is_over}
-use Rattle.avs_compact.specs.Slots.{Marks}
+use Rattle.avs_entries.specs.Entries.{slot_by, entry_for, entry_in}
+use Rattle.avs_entries.specs.Counting.{is_own, is_over}
+use Rattle.avs_entries.specs.Slots.{Marks}
+use Rattle.avs_entries.specs.Putting.{PutsEntry}
+use Rattle.avs_entries.specs.declared.marks.Counts.{Counts}
+use Rattle.avs_entries.proofs.Counted.{count_from, count_on}
+use Rattle.avs_entries.proofs.Marking.{own_yes, own_no, over_yes, over_no}
+use Rattle.avs_compact.specs.CompactSet.{CompactSet, disk_of, entry_of, next_of, chunks_of, in_slot, room_of}
 use Rattle.avs_compact.specs.Disks.{disk_at, Adds}
 use Rattle.avs_compact.specs.Work.{AddsUpTo, slot_work, slot_most, copy_work, ahead_work, ahead_most}
-use Rattle.avs_compact.specs.Steps.{TakesSlot, CopiesIn, PutsEntry}
+use Rattle.avs_compact.specs.Steps.{TakesSlot, CopiesIn}
 use Rattle.avs_compact.specs.Keeping.{UsesOwnFirst, AreOwnFull}
 use Rattle.avs_compact.specs.Ahead.{KeepsAhead, IsKeptFor, CopiesTold, kept_count}
-use Rattle.avs_compact.specs.declared.marks.Counts.{Counts}
-use Rattle.avs_compact.proofs.Counts.{count_from, count_on}
 use Rattle.avs_compact.proofs.Work.{up_to, up_to_none, up_to_as, slot_less, sum_one}
 use Rattle.avs_compact.proofs.Kept.{free_behind, used_or_kept}
-use Rattle.avs_compact.proofs.Marking.{own_yes, own_no, over_yes, over_no}
 use Rattle.avs_compact.proofs.Placed.{used_below, given_more}
 use Rattle.avs_compact.proofs.Settled.{same_slots, keeps_over, same_entries, place_is, place_in, zero_state}
 use Rattle.avs_compact.proofs.SettlingNew.{settling_new, free_slot, new_entry, takes_slot}

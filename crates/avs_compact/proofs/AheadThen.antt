@@ -12,16 +12,17 @@ use Rattle.avs_dev.specs.Seen.{Seen}
 use Rattle.avs_dev.proofs.Going.{all_then}
 use Rattle.avs_over.specs.Slots.{owner_at, given_to}
 use Rattle.avs_over.specs.Over.{OverSet}
-use Rattle.avs_compact.specs.Entries.{slot_by, entry_for}
-use Rattle.avs_compact.specs.CompactSet.{CompactSet, disk_of, entry_of, next_of, disk_entry, in_slot, need_of, room_of, is_own, is_over}
+use Rattle.avs_entries.specs.Entries.{slot_by, entry_for}
+use Rattle.avs_entries.specs.Counting.{is_own, is_over}
+use Rattle.avs_entries.specs.Parts.{is_ahead}
+use Rattle.avs_entries.proofs.Marking.{some_none}
+use Rattle.avs_compact.specs.CompactSet.{CompactSet, disk_of, entry_of, next_of, disk_entry, in_slot, need_of, room_of}
 use Rattle.avs_compact.specs.Disks.{CompactDisk, Master, Shadow, Bitmap, Over, disk_at}
 use Rattle.avs_compact.specs.Work.{slot_work, slot_most, ahead_work, ahead_most}
 use Rattle.avs_compact.specs.Calls.{IsKnown}
 use Rattle.avs_bits.specs.Bit.{bit_of}
-use Rattle.avs_compact.specs.Staging.{is_ahead}
-use Rattle.avs_compact.specs.Ahead.{KeepsAhead, IsKeptFor, KeepsSlotsFor, AreCopied, CopiesTold, slot_ahead, kept_count}
+use Rattle.avs_compact.specs.Ahead.{KeepsAhead, IsKeptFor, KeepsSlotsFor, AreCopied, CopiesTold, slot_ahead, kept_count, told_from}
 use Rattle.avs_compact.proofs.Work.{up_to_none, up_to_as, up_to_then, slot_less, sum_parts, sum_same, sum_below, sum_longer}
-use Rattle.avs_compact.proofs.Marking.{some_none}
 use Rattle.avs_compact.proofs.Placed.{stays}
 use Rattle.avs_compact.proofs.Chained.{slots_then, over_then, blocks_then}
 use Rattle.avs_compact.proofs.Ahead.{count_same_on, count_split, count_upto, keeps_none}
@@ -86,7 +87,7 @@ module _ (s now new : CompactSet) (o o1 o2 : OverSet) (m mn m' : Seen) (told : �
     seen = λ kn placed td. blocks_then s now new o o1 o2 m mn m' set_same own_same blocks_same (so.keeps.seen kn placed td) (q.seen (known kn) (so.keeps.slots.placed placed) ((so.keeps.goes.lasts Master).told td));
   }
 
-  module _ (own_new : new.own ≡ now.own) (takes : (k : ℕ) → owner_at o1.owners k ≡ Some s.set → owner_at o2.owners k ≡ Some s.set) (k : KeepsSlotsFor now o1 told c end new o2) where
+  module _ (own_new : new.own ≡ now.own) (takes : (k : ℕ) → owner_at o1.owners k ≡ Some s.set → owner_at o2.owners k ≡ Some s.set) (k : KeepsSlotsFor now o1 (told_from told c end) new o2) where
     early : (d : ℕ) → d < c → next_of new d ≡ next_of now d
     early d lt = k.others d (inl lt)
 
@@ -141,7 +142,7 @@ module _ (s now new : CompactSet) (o o1 o2 : OverSet) (m mn m' : Seen) (told : �
         let same = count_same_on q p first (c - first) (λ d from lt. ap (λ (e : ℕ). told d && test e) (early d (omega (arith, lt, low)))) in
         omega (arith, count_split p first c end low high, same)
 
-    pub kept_both : KeepsSlotsFor s o told first end new o2
+    pub kept_both : KeepsSlotsFor s o (told_from told first end) new o2
     kept_both = record {
       kept = λ d from lt is. elim (cases_lt d c) [
         | inl before ↦ kept_on d from before is
@@ -181,7 +182,7 @@ module _ (s now new : CompactSet) (o o1 o2 : OverSet) (m mn m' : Seen) (told : �
         sooner d (inr (inl h)) = inr (inl (omega (arith, h, high)))
         sooner d (inr (inr is)) = inr (inr is)
 
-    pub copied_both : AreCopied s o m.image told first c now o1 → AreCopied now o1 mn.image told c end new o2 → AreCopied s o m.image told first end new o2
+    pub copied_both : AreCopied s o m.image (told_from told first c) now o1 → AreCopied now o1 mn.image (told_from told c end) new o2 → AreCopied s o m.image (told_from told first end) new o2
     copied_both p q = record {
       each = λ i lt from below is. elim (cases_lt (i / 64) c) [
         | inl before ↦
@@ -208,7 +209,7 @@ module _ (s now new : CompactSet) (o o1 o2 : OverSet) (m mn m' : Seen) (told : �
   abbrev most_of : CompactSet → CompactDisk → ℕ → ℕ
   most_of a d k = cond (told k) (slot_most (seg_len k a.blocks) d) 0
 
-  blocks_both : KeepsSlotsFor now o1 told c end new o2 → (d : CompactDisk) → ahead_work s now told first (c - first) d + ahead_work now new told c (end - c) d ≡ ahead_work s new told first (end - first) d
+  blocks_both : KeepsSlotsFor now o1 (told_from told c end) new o2 → (d : CompactDisk) → ahead_work s now told first (c - first) d + ahead_work now new told c (end - c) d ≡ ahead_work s new told first (end - first) d
   blocks_both k d =
       let before = sum_same (copies_of s now d) (copies_of s new d) first (c - first) (λ j from lt. ap (λ (e : ℕ). cond (told j) (slot_work s.own (slot_by e) (seg_len j s.blocks) d) 0) (k.others j (inl (omega (arith, lt, low))))) in
       let last = sum_same (copies_of s new d) (copies_of now new d) c (end - c) (λ j _ _. ap (λ (n : ℕ). cond (told j) (slot_work n (slot_by (next_of new j)) (seg_len j now.blocks) d) 0) own_same

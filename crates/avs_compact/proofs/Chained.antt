@@ -8,7 +8,8 @@ use Rattle.avs_seg.proofs.Exits.{ok_exit, err_exit}
 use Rattle.avs_dev.specs.Seen.{Seen}
 use Rattle.avs_dev.proofs.Going.{all_then, all_same, all_err}
 use Rattle.avs_over.specs.Over.{OverSet}
-use Rattle.avs_compact.specs.Entries.{state_by, slot_by}
+use Rattle.avs_entries.specs.Entries.{state_by, slot_by}
+use Rattle.avs_entries.proofs.Counted.{count_from, cond_is, cond_not}
 use Rattle.avs_compact.specs.CompactSet.{CompactSet, entry_of, disk_entry, chunks_of, need_of, room_of}
 use Rattle.avs_compact.specs.Disks.{CompactDisk, Master, Bitmap, Over, disk_at}
 use Rattle.avs_compact.specs.Work.{settled_work, settled_most, save_work, save_most, saved_work, saved_most}
@@ -16,7 +17,6 @@ use Rattle.avs_compact.specs.Calls.{IsKnown}
 use Rattle.avs_compact.specs.Places.{ArePlaced, OnlyTakes, KeepsOver, SetsEntry, AreSame, Splits}
 use Rattle.avs_compact.specs.Keeping.{IsPlaced, OwnFirst, KeepsBlocks, KeepsSlots, KeepsSet, CountsSlots, Settles, DoesNothing}
 use Rattle.avs_compact.specs.Saving.{SavesOne, SavesAll, lacking, need_with}
-use Rattle.avs_compact.proofs.Counts.{count_from, cond_is, cond_not}
 use Rattle.avs_compact.proofs.Work.{up_to_none, up_to_as, up_to_then, save_less, sum_one, sum_more, sum_same, sum_below, sum_longer}
 use Rattle.avs_compact.proofs.Placed.{stays, placed_same, only_takes_none, only_takes_then}
 use Rattle.avs_compact.proofs.OwnFirst.{first_same}

@@ -12,13 +12,13 @@ use Rattle.avs_dev.specs.Seen.{Seen, IsTold, Lasts, Reads, Writes}
 use Rattle.avs_dev.specs.Devices.{AllGoOn}
 use Rattle.avs_dev.proofs.Going.{lasts_same, goes_err, all_then, all_err, all_same}
 use Rattle.avs_over.specs.Over.{OverSet, slot_from}
-use Rattle.avs_compact.specs.Entries.{state_by, slot_by}
+use Rattle.avs_entries.specs.Entries.{state_by, slot_by}
+use Rattle.avs_entries.proofs.Counted.{cond_is, cond_not}
 use Rattle.avs_compact.specs.CompactSet.{in_slot}
 use Rattle.avs_compact.specs.Disks.{CompactDisk, four, Adds}
 use Rattle.avs_compact.specs.Work.{slot_work, out_work, copy_work}
 use Rattle.avs_compact.specs.Calls.{ReadsOne}
 use Rattle.avs_compact.specs.Steps.{OnlySlot, OtherSlots, WritesOne, CopiesIn, CopiesOut, CopiesBack}
-use Rattle.avs_compact.proofs.Counts.{cond_is, cond_not}
 use Rattle.avs_compact.proofs.Going.{master_goes, shadow_goes, over_goes}
 use Rattle.avs_compact.proofs.Work.{each_disk, own_work, over_work, adds_four, adds_same, adds_as, same_written, same_most, now_written, now_most}
 

@@ -2,10 +2,11 @@
 use Rattle.std.proofs.Common.{◌≡◌, ◌≢◌, inl, inr, ℕ, ◌<◌, Option, Some, None, IfSome, IfNone, Result, Ok, Err, refl, arith}
 use Rattle.avs_dev.specs.Seen.{Seen}
 use Rattle.avs_over.specs.Over.{OverSet}
-use Rattle.avs_compact.specs.Entries.{state_by}
+use Rattle.avs_entries.specs.Entries.{state_by}
+use Rattle.avs_entries.specs.Counting.{FindsDue}
 use Rattle.avs_compact.specs.CompactSet.{CompactSet, entry_of, chunks_of}
 use Rattle.avs_compact.specs.Keeping.{MaySettle, Settles}
-use Rattle.avs_compact.specs.Copying.{FindsDue, CopiesOne}
+use Rattle.avs_compact.specs.Copying.{CopiesOne}
 use Rattle.avs_compact.proofs.Settled.{zero_state}
 use Rattle.avs_compact.proofs.Settles.{settles_ok, settles_err}
 

@@ -1,9 +1,9 @@
 -- Own slots come first: what is kept of the rule where entries are as before.
 use Rattle.std.proofs.Common.{◌≡◌, inl, inr, ℕ, ◌+◌, ◌-◌, ◌<◌, ◌≤◌, ap, arith}
 use Rattle.std.proofs.lemmas.Bool.{cases_lt}
-use Rattle.avs_compact.specs.CompactSet.{is_own, is_over}
+use Rattle.avs_entries.specs.Counting.{is_own, is_over}
+use Rattle.avs_entries.proofs.Counted.{count_same}
 use Rattle.avs_compact.specs.Keeping.{OwnFirst}
-use Rattle.avs_compact.proofs.Placed.{count_same}
 
 pub first_same : (f g : ℕ → ℕ) (own n kept : ℕ) → ((c : ℕ) → c < n → g c ≡ f c) → OwnFirst f own n kept → OwnFirst g own n kept
 first_same f g own n kept same first more =

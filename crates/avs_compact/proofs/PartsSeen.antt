@@ -1,17 +1,17 @@
 -- What both images are once a set was updated part by part: what they were.
-use Rattle.std.proofs.Common.{◌≡◌, ◌≢◌, ◌⊎◌, inl, inr, ℕ, ◌-◌, ◌/◌, ◌%◌, ◌<◌, Bool, true, false, eqb, List, ◌∙◌, sym, ap, arith}
+use Rattle.std.proofs.Common.{◌≡◌, ◌≢◌, ◌⊎◌, inl, inr, ℕ, ◌/◌, ◌%◌, ◌<◌, Bool, true, false, eqb, List, ◌∙◌, sym, ap, arith}
 use Rattle.std.specs.Prelude.{◌&&◌}
 use Rattle.std.proofs.lemmas.Bool.{cases_Bool, cases_eq, eq-eqb}
 use Rattle.avs_seg.specs.Image.{block_at}
 use Rattle.avs_dev.specs.Seen.{Seen, IsTold}
 use Rattle.avs_over.specs.Over.{OverSet}
-use Rattle.avs_compact.specs.Entries.{state_by, slot_by, entry_for}
+use Rattle.avs_entries.specs.Entries.{state_by, slot_by, entry_for}
+use Rattle.avs_entries.proofs.Counted.{cond_is, cond_not}
 use Rattle.avs_compact.specs.CompactSet.{CompactSet, disk_of, chunks_of, entry_of, disk_entry, next_of, in_slot}
 use Rattle.avs_compact.specs.Calls.{IsKnown}
 use Rattle.avs_compact.specs.Keeping.{IsPlaced, stands, shadow_block, master_block, KeepsBlocks}
-use Rattle.avs_compact.specs.Ahead.{AreCopied, slot_ahead}
+use Rattle.avs_compact.specs.Ahead.{AreCopied, slot_ahead, told_from}
 use Rattle.avs_compact.specs.Updating.{is_ahead_in, told_in, split_in, UpdatesParts, AreBack}
-use Rattle.avs_compact.proofs.Counts.{cond_is, cond_not}
 use Rattle.avs_compact.proofs.Placed.{placed_same, only_takes_none}
 use Rattle.avs_compact.proofs.Settled.{zero_state}
 use Rattle.avs_compact.proofs.SplitCounts.{SplitsWith, kept_entry}
@@ -24,7 +24,7 @@ module _ (old new : CompactSet) (o o' : OverSet) (bits : ℕ → List ℕ) (u : 
   w : SplitsWith (entry_of old) (split_in u.mid bits) (next_of u.mid) (is_ahead_in bits (entry_of old)) (chunks_of old)
   w = parts_slots old new o o' bits u p
 
-  copied : AreCopied old o u.master.image (is_ahead_in bits (entry_of old)) 0 (chunks_of old) u.mid o'
+  copied : AreCopied old o u.master.image (told_from (is_ahead_in bits (entry_of old)) 0 (chunks_of old)) u.mid o'
   copied = u.copies.copied td kn.shadow kn.over
 
   master_same : (i : ℕ) → block_at u.master_mid.image i ≡ block_at u.master.image i

@@ -9,19 +9,21 @@ use Rattle.avs_seg.proofs.Exits.{ok_exit, err_exit}
 use Rattle.avs_dev.specs.Seen.{Seen}
 use Rattle.avs_over.specs.Slots.{given_to}
 use Rattle.avs_over.specs.Over.{OverSet}
-use Rattle.avs_compact.specs.Entries.{IsEntry, slot_by, entry_for}
-use Rattle.avs_compact.specs.CompactSet.{CompactSet, chunks_of, entry_of, next_of, own_used, over_used, is_own, is_over, is_touched, count_of}
+use Rattle.avs_entries.specs.Entries.{IsEntry, slot_by, entry_for}
+use Rattle.avs_entries.specs.Counting.{is_own, is_over, is_touched, count_of}
+use Rattle.avs_entries.specs.Slots.{AreEntries}
+use Rattle.avs_entries.specs.Parts.{told_by, part_end, is_ahead, part_blocks, split_to}
+use Rattle.avs_entries.proofs.Counted.{cond_is, cond_not, count_same}
+use Rattle.avs_compact.specs.CompactSet.{CompactSet, chunks_of, entry_of, next_of, own_used, over_used}
 use Rattle.avs_compact.specs.Disks.{CompactDisk, Shadow, Bitmap, Over, disk_at}
 use Rattle.avs_compact.specs.Places.{ArePlaced}
-use Rattle.avs_compact.specs.Slots.{AreEntries}
 use Rattle.avs_compact.specs.Keeping.{IsPlaced, AreOwnFull}
-use Rattle.avs_compact.specs.Staging.{StagesBlocks, told_by, part_end, is_ahead}
-use Rattle.avs_compact.specs.Ahead.{CopiesTold, KeepsSlotsFor, kept_count, part_blocks, split_of, split_to}
+use Rattle.avs_compact.specs.Staging.{StagesBlocks}
+use Rattle.avs_compact.specs.Ahead.{CopiesTold, KeepsSlotsFor, kept_count, split_of, told_from}
 use Rattle.avs_compact.specs.Updating.{is_ahead_in, lacking_in, CopiesBelow, CopiesNext, split_in, StagesBelow, StagesNextPart, UpdatesParts, LeavesSlots}
 use Rattle.avs_compact.specs.Work.{slot_work, slot_most, ahead_work, ahead_most}
 use Rattle.avs_compact.proofs.Work.{up_to_as, sum_same}
-use Rattle.avs_compact.proofs.Counts.{cond_is, cond_not}
-use Rattle.avs_compact.proofs.Placed.{count_same, placed_same, only_takes_none}
+use Rattle.avs_compact.proofs.Placed.{placed_same, only_takes_none}
 use Rattle.avs_compact.proofs.Ahead.{count_same_on}
 use Rattle.avs_compact.proofs.AheadThen.{told_none, then_told}
 use Rattle.avs_compact.proofs.Staged.{blocks_none, blocks_more}
@@ -37,7 +39,7 @@ module _ (s new : CompactSet) (o o' : OverSet) (m m' : Seen) (p q : ℕ → Bool
   kept_as : (test : ℕ → Bool) → kept_count test new q first end ≡ kept_count test new p first end
   kept_as test = count_same_on (λ c. p c && test (next_of new c)) (λ c. q c && test (next_of new c)) first (end - first) (λ c low lt. ap (λ (b : Bool). b && test (next_of new c)) (same c low (within c lt low)))
 
-  slots_as : KeepsSlotsFor s o p first end new o' → KeepsSlotsFor s o q first end new o'
+  slots_as : KeepsSlotsFor s o (told_from p first end) new o' → KeepsSlotsFor s o (told_from q first end) new o'
   slots_as k = record {
     kept = λ c low lt is. k.kept c low lt (sym (same c low lt) ∙ is);
     others = λ c out. k.others c (outside c out);
@@ -181,7 +183,7 @@ module _ (old new : CompactSet) (o o' : OverSet) (bits : ℕ → List ℕ) (u : 
   pub parts_slots : SplitsWith (entry_of old) (split_in u.mid bits) (next_of u.mid) (is_ahead_in bits (entry_of old)) (chunks_of old)
   parts_slots = splits_with old u.mid o o' u.master u.master_mid bits u.copies p.form
 
-  kept : KeepsSlotsFor old o (is_ahead_in bits (entry_of old)) 0 (chunks_of old) u.mid o'
+  kept : KeepsSlotsFor old o (told_from (is_ahead_in bits (entry_of old)) 0 (chunks_of old)) u.mid o'
   kept = u.copies.kept
 
   pub parts_placed : ArePlaced (split_in u.mid bits) old.own (chunks_of old) old.set o'.owners

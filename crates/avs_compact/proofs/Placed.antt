@@ -1,7 +1,6 @@
 -- Entries of which one is set: the slots that stand in them, and the table of the own slots.
-use Rattle.std.proofs.Common.{◌≡◌, ◌≢◌, inl, inr, ℕ, zero, suc, ◌+◌, ◌-◌, ◌<◌, ◌≤◌, min, Bool, true, false, cond, filter, length, set, take, Option, None, Some, refl, sym, ◌∙◌, ap, subst, arith}
+use Rattle.std.proofs.Common.{◌≡◌, ◌≢◌, inl, inr, ℕ, ◌+◌, ◌-◌, ◌<◌, ◌≤◌, min, Bool, true, false, cond, length, set, take, Option, None, Some, refl, sym, ◌∙◌, ap, subst, arith}
 use Rattle.std.specs.Prelude.{nat_lt, not}
-use Rattle.std.specs.List.{range_with_len}
 use Rattle.std.proofs.lemmas.Bool.{cases_lt, cases_eq, eq-eqb, lt-ltb, le-ltb}
 use Rattle.std.proofs.lemmas.List.{get_or-set_same, get_or-set_other}
 use Rattle.std.proofs.lemmas.List.Sums.{sum_by-set}
@@ -9,43 +8,16 @@ use Rattle.std.proofs.Math.ListN.{length-set}
 use Rattle.avs_over.specs.Slots.{Owners, owner_at, used_in, given_to, is_of}
 use Rattle.avs_over.specs.Over.{OverSet, Takes, slots, used}
 use Rattle.avs_over.proofs.Giving.{used_more, used_some}
-use Rattle.avs_compact.specs.Entries.{IsEntry, slot_by, state_by}
-use Rattle.avs_compact.specs.CompactSet.{is_touched, is_own, is_over, count_of}
-use Rattle.avs_compact.specs.Slots.{Marks, MarksSlot, ArePassed}
+use Rattle.avs_entries.specs.Entries.{IsEntry, slot_by, state_by}
+use Rattle.avs_entries.specs.Counting.{is_touched, is_own, is_over, count_of}
+use Rattle.avs_entries.specs.Slots.{Marks, MarksSlot}
+use Rattle.avs_entries.specs.declared.marks.Counts.{Counts}
+use Rattle.avs_entries.proofs.Counted.{count_same, count_set}
+use Rattle.avs_entries.proofs.Marking.{own_yes, own_no, over_yes, over_no, some_none, same_some, touched_yes}
+use Rattle.avs_compact.specs.Kept.{ArePassed}
 use Rattle.avs_compact.specs.Places.{ArePlaced, OnlyTakes}
 use Rattle.avs_compact.specs.Steps.{AreUsedFrom}
-use Rattle.avs_compact.specs.declared.marks.Counts.{Counts}
-use Rattle.avs_compact.proofs.Counts.{count_more}
 use Rattle.avs_compact.proofs.Kept.{kept_taken, kept_all}
-use Rattle.avs_compact.proofs.Marking.{own_yes, own_no, over_yes, over_no, some_none, same_some, touched_yes}
-
--- ---- counts
-
-pub count_same : (p q : ℕ → Bool) (n : ℕ) → ((k : ℕ) → k < n → q k ≡ p k) → length (filter q (range_with_len 0 n)) ≡ length (filter p (range_with_len 0 n))
-count_same p q zero same = refl
-count_same p q (suc n) same =
-    let e : suc n ≡ n + 1 = omega arith in
-    let last : ◌≡◌ {A = ℕ} (cond (q n) 1 0) (cond (p n) 1 0) = ap (λ (b : Bool). cond b 1 0) (same n (omega arith)) in
-    subst (λ (k : ℕ). length (filter q (range_with_len 0 k)) ≡ length (filter p (range_with_len 0 k))) (sym e)
-    (omega (arith, count_more p n, count_more q n, last, count_same p q n (λ k lt. same k (omega (arith, lt)))))
-
-pub count_set : (p q : ℕ → Bool) (n k : ℕ) → k < n → ((c : ℕ) → c < n → c ≢ k → q c ≡ p c)
-    → length (filter q (range_with_len 0 n)) + cond (p k) 1 0 ≡ length (filter p (range_with_len 0 n)) + cond (q k) 1 0
-count_set p q zero k lt others = absurd (omega (arith, lt))
-count_set p q (suc n) k lt others =
-    let e : suc n ≡ n + 1 = omega arith in
-    subst (λ (j : ℕ). length (filter q (range_with_len 0 j)) + cond (p k) 1 0 ≡ length (filter p (range_with_len 0 j)) + cond (q k) 1 0) (sym e)
-    (elim (cases_eq k n) [
-      | inl is ↦
-          let p_is : ◌≡◌ {A = ℕ} (cond (p n) 1 0) (cond (p k) 1 0) = ap (λ (j : ℕ). cond (p j) 1 0) (sym is) in
-          let q_is : ◌≡◌ {A = ℕ} (cond (q n) 1 0) (cond (q k) 1 0) = ap (λ (j : ℕ). cond (q j) 1 0) (sym is) in
-          let rest = count_same p q n (λ c low. others c (omega (arith, low)) (λ z. omega (arith, low, z, is))) in
-          omega (arith, count_more p n, count_more q n, p_is, q_is, rest)
-      | inr ne ↦
-          let last : ◌≡◌ {A = ℕ} (cond (q n) 1 0) (cond (p n) 1 0) = ap (λ (b : Bool). cond b 1 0) (others n (omega arith) (λ z. ne (sym z))) in
-          let rest = count_set p q n k (omega (arith, lt, ne)) (λ c low. others c (omega (arith, low))) in
-          omega (arith, count_more p n, count_more q n, last, rest)
-    ])
 
 -- ---- one entry is set
 

@@ -9,11 +9,11 @@ use Rattle.avs_dev.specs.Devices.{AllGoOn}
 use Rattle.avs_dev.proofs.Going.{all_same, all_err}
 use Rattle.avs_flip.specs.Areas.{live}
 use Rattle.avs_over.specs.Over.{OverSet, ReadsSlot, slot_from}
-use Rattle.avs_compact.specs.Entries.{entry_on, slot_by}
+use Rattle.avs_entries.specs.Entries.{entry_on, slot_by}
+use Rattle.avs_entries.proofs.Counted.{cond_is, cond_not}
 use Rattle.avs_compact.specs.CompactSet.{CompactSet, disk_of, entry_of, chunks_of, shadow_by, shadow_image, in_slot}
 use Rattle.avs_compact.specs.Disks.{four, disk_at}
 use Rattle.avs_compact.specs.Calls.{AreThere, IsKnown, IsInSlot, ReadsOne, ReadsShadow}
-use Rattle.avs_compact.proofs.Counts.{cond_is, cond_not}
 use Rattle.avs_compact.proofs.Going.{master_goes, shadow_goes, over_goes}
 
 -- ---- a block of the shadow

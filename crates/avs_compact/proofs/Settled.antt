@@ -13,16 +13,16 @@ use Rattle.avs_dev.proofs.Going.{all_then, all_err}
 use Rattle.avs_flip.specs.Areas.{Areas, live, live_from}
 use Rattle.avs_over.specs.Slots.{owner_at}
 use Rattle.avs_over.specs.Over.{OverSet, slots}
-use Rattle.avs_compact.specs.Entries.{IsEntry, state_by, slot_by, entry_in, entry_on}
+use Rattle.avs_entries.specs.Entries.{IsEntry, state_by, slot_by, entry_in, entry_on}
+use Rattle.avs_entries.specs.Slots.{IsClean}
+use Rattle.avs_entries.specs.Putting.{WritesEntry, HasEntries, PutsEntry}
+use Rattle.avs_entries.proofs.Counted.{cond_is, cond_not}
 use Rattle.avs_compact.specs.CompactSet.{CompactSet, disk_of, entry_of, disk_entry, chunks_of, in_slot}
-use Rattle.avs_compact.specs.Slots.{IsClean}
 use Rattle.avs_compact.specs.Disks.{CompactDisk, Shadow, Over, four, disk_at, Adds}
 use Rattle.avs_compact.specs.Work.{AddsUpTo, copy_work, settle_work, settle_most, settled_work, settled_most}
 use Rattle.avs_compact.specs.Calls.{IsKnown}
 use Rattle.avs_compact.specs.Places.{ArePlaced, OnlyTakes, KeepsOver, SetsEntry, AreSame}
-use Rattle.avs_compact.specs.Steps.{WritesEntry, HasEntries, PutsEntry}
 use Rattle.avs_compact.specs.Keeping.{IsPlaced, OwnFirst, UsesOwnFirst, IsAlike, shadow_block, master_block, IsCleanOnDisk, KeepsBitmap, KeepsBlocks, KeepsSlots, KeepsSet, CountsSlots, Settles}
-use Rattle.avs_compact.proofs.Counts.{cond_is, cond_not}
 use Rattle.avs_compact.proofs.Going.{bitmap_goes}
 use Rattle.avs_compact.proofs.Work.{settle_less, copy_settle, settled_adds, up_to_as}
 use Rattle.avs_compact.proofs.Copied.{Copied}

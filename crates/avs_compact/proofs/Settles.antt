@@ -6,15 +6,16 @@ use Rattle.avs_dev.proofs.Going.{all_err}
 use Rattle.avs_flip.specs.Areas.{Areas}
 use Rattle.avs_over.specs.Slots.{Owners, owner_at, used_in}
 use Rattle.avs_over.specs.Over.{OverSet, slots}
-use Rattle.avs_compact.specs.Entries.{IsEntry, state_by, slot_by, entry_for}
+use Rattle.avs_entries.specs.Entries.{IsEntry, state_by, slot_by, entry_for}
+use Rattle.avs_entries.specs.Slots.{IsClean, Marks}
+use Rattle.avs_entries.specs.Putting.{WritesEntry}
+use Rattle.avs_entries.specs.declared.marks.Counts.{Counts}
 use Rattle.avs_compact.specs.CompactSet.{CompactSet, disk_of, entry_of, chunks_of}
-use Rattle.avs_compact.specs.Slots.{IsClean, Marks}
 use Rattle.avs_compact.specs.Disks.{disk_at}
 use Rattle.avs_compact.specs.Calls.{AreThere}
 use Rattle.avs_compact.specs.Places.{OnlyTakes}
-use Rattle.avs_compact.specs.Steps.{TakesSlot, CopiesIn, CopiesBack, WritesEntry}
+use Rattle.avs_compact.specs.Steps.{TakesSlot, CopiesIn, CopiesBack}
 use Rattle.avs_compact.specs.Keeping.{IsPlaced, MaySettle, Settles}
-use Rattle.avs_compact.specs.declared.marks.Counts.{Counts}
 use Rattle.avs_compact.proofs.Copied.{Copied, copied_in, copied_back, back_owners}
 use Rattle.avs_compact.proofs.Placed.{only_takes_none}
 use Rattle.avs_compact.proofs.Settled.{IsNewEntry, zero_state, some_state, fails_copy, settles}

@@ -3,16 +3,17 @@ use Rattle.std.proofs.Common.{◌≡◌, ◌≢◌, ◌⊎◌, inl, inr, ℕ, �
 use Rattle.std.proofs.lemmas.Bool.{cases_lt}
 use Rattle.avs_over.specs.Slots.{Owners, owner_at, used_in, given_to}
 use Rattle.avs_over.specs.Over.{OverSet, slots, used}
-use Rattle.avs_compact.specs.Entries.{IsEntry, slot_by, entry_for}
-use Rattle.avs_compact.specs.CompactSet.{CompactSet, entry_of, chunks_of, need_of, room_of, own_used, over_used, is_own, is_over, is_touched, count_of}
-use Rattle.avs_compact.specs.Slots.{Marks}
+use Rattle.avs_entries.specs.Entries.{IsEntry, slot_by, entry_for}
+use Rattle.avs_entries.specs.Counting.{is_own, is_over, is_touched, count_of}
+use Rattle.avs_entries.specs.Slots.{Marks}
+use Rattle.avs_entries.specs.declared.marks.Counts.{Counts}
+use Rattle.avs_entries.proofs.Counted.{cond_is, cond_not}
+use Rattle.avs_entries.proofs.Marking.{some_none, need_is}
+use Rattle.avs_compact.specs.CompactSet.{CompactSet, entry_of, chunks_of, need_of, room_of, own_used, over_used}
 use Rattle.avs_compact.specs.Places.{OnlyTakes}
 use Rattle.avs_compact.specs.Steps.{TakesSlot}
 use Rattle.avs_compact.specs.Keeping.{IsPlaced, OwnFirst, UsesOwnFirst, MaySettle, CountsSlots}
-use Rattle.avs_compact.specs.declared.marks.Counts.{Counts}
-use Rattle.avs_compact.proofs.Counts.{cond_is, cond_not}
 use Rattle.avs_compact.proofs.Kept.{used_or_kept, free_behind}
-use Rattle.avs_compact.proofs.Marking.{some_none, need_is}
 use Rattle.avs_compact.proofs.Placed.{SetsOne, IsApart, only_takes_none, taken_now, taken_only, given_more, used_below, need_more, own_slot, over_slot, own_stays, over_stays}
 use Rattle.avs_compact.proofs.Settled.{Settling, IsNewEntry, zero_state}
 

@@ -5,14 +5,15 @@ use Rattle.std.specs.List.{range_with_len}
 use Rattle.std.proofs.lemmas.Bool.{cases_Bool, cases_lt, cases_eq}
 use Rattle.avs_over.specs.Slots.{owner_at}
 use Rattle.avs_over.specs.Over.{OverSet}
-use Rattle.avs_compact.specs.Entries.{IsEntry, slot_by, entry_for}
-use Rattle.avs_compact.specs.CompactSet.{CompactSet, entry_of, next_of, chunks_of, is_own, is_over, is_touched, count_of}
+use Rattle.avs_entries.specs.Entries.{IsEntry, slot_by, entry_for}
+use Rattle.avs_entries.specs.Counting.{is_own, is_over, is_touched, count_of}
+use Rattle.avs_entries.proofs.Counted.{count_more, count_same}
+use Rattle.avs_entries.proofs.Marking.{touched_yes}
+use Rattle.avs_compact.specs.CompactSet.{CompactSet, entry_of, next_of, chunks_of}
 use Rattle.avs_compact.specs.Places.{ArePlaced, OnlyTakes}
 use Rattle.avs_compact.specs.Keeping.{IsPlaced}
-use Rattle.avs_compact.specs.Ahead.{KeepsSlotsFor, slot_ahead, kept_count}
-use Rattle.avs_compact.proofs.Counts.{count_more}
-use Rattle.avs_compact.proofs.Marking.{touched_yes}
-use Rattle.avs_compact.proofs.Placed.{count_same, stays, tests_same}
+use Rattle.avs_compact.specs.Ahead.{KeepsSlotsFor, slot_ahead, kept_count, told_from}
+use Rattle.avs_compact.proofs.Placed.{stays, tests_same}
 
 count_sum_in : (p q r : ℕ → Bool) (n : ℕ) → ((k : ℕ) → k < n → cond (r k) 1 0 ≡ cond (p k) 1 0 + cond (q k) 1 0) → length (filter r (range_with_len 0 n)) ≡ length (filter p (range_with_len 0 n)) + length (filter q (range_with_len 0 n))
 count_sum_in p q r zero each = refl
@@ -47,7 +48,7 @@ pub record SplitsWith (f g N : ℕ → ℕ) (told : ℕ → Bool) (n : ℕ) : Ty
   pub none : (c : ℕ) → c < n → f c ≡ 0 → told c ≡ false → g c ≡ 0
   pub took : (c : ℕ) → c < n → told c ≡ true → (f c ≡ 0) × (g c ≡ N c)
 
-module _ (old mid : CompactSet) (o o' : OverSet) (told : ℕ → Bool) (k : KeepsSlotsFor old o told 0 (chunks_of old) mid o') (g : ℕ → ℕ) (s : SplitsWith (entry_of old) g (next_of mid) told (chunks_of old)) where
+module _ (old mid : CompactSet) (o o' : OverSet) (told : ℕ → Bool) (k : KeepsSlotsFor old o (told_from told 0 (chunks_of old)) mid o') (g : ℕ → ℕ) (s : SplitsWith (entry_of old) g (next_of mid) told (chunks_of old)) where
   abbrev count : (ℕ → Bool) → ℕ
   count test = length (filter (λ c. told c && test (next_of mid c)) (range_with_len 0 (chunks_of old)))
 

@@ -8,12 +8,12 @@ use Rattle.avs_seg.specs.Segment.{seg_len}
 use Rattle.avs_model.specs.declared.shadow.Kind.{Kind}
 use Rattle.avs_model.specs.ShadowSets.{ChunkList, ShadowState, Standing, Online, is_offline, is_independent}
 use Rattle.avs_model.specs.GroupWork.{GroupSpot, VolumeDisk, ShadowDisk, BitmapDisk, OverDisk, Work, on, on_over, on_shadow, is_bare, copy_to_shadow, copy_to_master, mark_work, copy_work, blocks_in, blocks_on_spot}
-use Rattle.avs_compact.specs.Entries.{state_by}
+use Rattle.avs_entries.specs.Entries.{state_by}
+use Rattle.avs_entries.proofs.Counted.{cond_not}
 use Rattle.avs_compact.specs.CompactSet.{CompactSet, chunks_of, entry_of}
 use Rattle.avs_compact.specs.Disks.{CompactDisk, Master, Shadow, Bitmap, Over}
 use Rattle.avs_compact.specs.Work.{slot_most, settle_most, save_most, ahead_most}
 use Rattle.avs_compact.specs.Working.{IsListed, StandsFor, spot_of}
-use Rattle.avs_compact.proofs.Counts.{cond_not}
 use Rattle.avs_compact.proofs.Work.{sum_zeros}
 
 -- ---- the disks of a set

@@ -2,9 +2,9 @@
 use Rattle.std.proofs.Common.{◌≡◌, ℕ, List, not, sym, ◌∙◌, ap, subst}
 use Rattle.avs_dev.specs.Seen.{IsTold}
 use Rattle.avs_flip.specs.Areas.{Areas, live, staged}
-use Rattle.avs_compact.specs.Entries.{entry_in, entry_on}
+use Rattle.avs_entries.specs.Entries.{entry_in, entry_on}
+use Rattle.avs_entries.specs.Slots.{AreEntries, HasBadEntry}
 use Rattle.avs_compact.specs.CompactSet.{CompactSet, chunks_of, next_of}
-use Rattle.avs_compact.specs.Slots.{AreEntries, HasBadEntry}
 use Rattle.avs_compact.specs.Staging.{TurnsSet}
 
 pub turns : (s : CompactSet) (a' : Areas) (M' : List ℕ) → a' ≡ record s.areas { live_b = not s.areas.live_b } → live a' ≡ staged s.areas → staged a' ≡ live s.areas → (AreEntries (next_of s) s.own (chunks_of s) → M' ≡ s.next)

@@ -5,17 +5,19 @@ use Rattle.std.proofs.lemmas.Bool.{cases_eq}
 use Rattle.avs_dev.specs.Seen.{Seen, IsTold}
 use Rattle.avs_over.specs.Slots.{Owners, owner_at, given_to, is_of, without}
 use Rattle.avs_over.specs.Over.{OverSet, Releases}
-use Rattle.avs_compact.specs.Entries.{IsEntry, state_by, slot_by, entry_for, entry_in}
-use Rattle.avs_compact.specs.CompactSet.{CompactSet, chunks_of, disk_of, entry_of, next_of, own_used, over_used, is_own, is_over, is_touched, count_of}
-use Rattle.avs_compact.specs.Slots.{AreEntries}
+use Rattle.avs_entries.specs.Entries.{IsEntry, state_by, slot_by, entry_for, entry_in}
+use Rattle.avs_entries.specs.Counting.{is_own, is_over, is_touched, count_of}
+use Rattle.avs_entries.specs.Slots.{AreEntries}
+use Rattle.avs_entries.specs.Staging.{to_master}
+use Rattle.avs_entries.proofs.Counted.{cond_is, cond_not, count_none, count_same}
+use Rattle.avs_entries.proofs.Marking.{touched_yes}
+use Rattle.avs_compact.specs.CompactSet.{CompactSet, chunks_of, disk_of, entry_of, next_of, own_used, over_used}
 use Rattle.avs_compact.specs.Places.{ArePlaced}
 use Rattle.avs_compact.specs.Calls.{IsKnown}
-use Rattle.avs_compact.specs.Staging.{StagesAll, IsReady, TurnsSet, to_master}
+use Rattle.avs_compact.specs.Staging.{StagesAll, IsReady, TurnsSet}
 use Rattle.avs_compact.specs.Keeping.{IsPlaced}
 use Rattle.avs_compact.specs.Updating.{LeavesSlots, HasNone}
-use Rattle.avs_compact.proofs.Counts.{cond_is, cond_not, count_none}
-use Rattle.avs_compact.proofs.Marking.{touched_yes}
-use Rattle.avs_compact.proofs.Placed.{count_same, placed_same, only_takes_none, tests_same}
+use Rattle.avs_compact.proofs.Placed.{placed_same, only_takes_none, tests_same}
 
 entries_as : (f g : ℕ → ℕ) (own n : ℕ) → ((c : ℕ) → c < n → g c ≡ f c) → AreEntries f own n → AreEntries g own n
 entries_as f g own n same p = record {

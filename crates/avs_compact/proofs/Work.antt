@@ -7,9 +7,9 @@ use Rattle.std.proofs.lemmas.Result.{on_ok_weaker, on_err_weaker}
 use Rattle.avs_seg.proofs.Exits.{ok_exit, err_exit}
 use Rattle.avs_dev.specs.Seen.{Seen}
 use Rattle.avs_dev.specs.Memory.{counted}
+use Rattle.avs_entries.proofs.Counted.{raised-none, raised-some, raised-then, raised_most}
 use Rattle.avs_compact.specs.Disks.{CompactDisk, Master, Shadow, Bitmap, Over, four, raised, Adds}
 use Rattle.avs_compact.specs.Work.{AddsUpTo, slot_work, slot_most, out_work, copy_work, copy_most, settle_work, settle_most, save_work, save_most}
-use Rattle.avs_compact.proofs.Counts.{raised-none, raised-some, raised-then, raised_most}
 
 -- one fact for each disk
 pub each_disk : (P : CompactDisk → Type 0) → P Master → P Shadow → P Bitmap → P Over → (d : CompactDisk) → P d

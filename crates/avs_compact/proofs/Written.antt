@@ -15,7 +15,8 @@ use Rattle.avs_dev.proofs.Going.{all_then, all_same, all_err}
 use Rattle.avs_flip.specs.Areas.{live}
 use Rattle.avs_over.specs.Slots.{Owners, owner_at}
 use Rattle.avs_over.specs.Over.{OverSet, slot_from}
-use Rattle.avs_compact.specs.Entries.{state_by, slot_by, entry_on}
+use Rattle.avs_entries.specs.Entries.{state_by, slot_by, entry_on}
+use Rattle.avs_entries.proofs.Counted.{cond_is, cond_not}
 use Rattle.avs_compact.specs.CompactSet.{CompactSet, disk_of, entry_of, disk_entry, chunks_of, in_slot, shadow_by, master_by, shadow_image, master_image}
 use Rattle.avs_compact.specs.Disks.{CompactDisk, Shadow, Over, disk_at, Adds}
 use Rattle.avs_compact.specs.Work.{slot_work, put_work}
@@ -24,7 +25,6 @@ use Rattle.avs_compact.specs.Places.{ArePlaced, OnlyTakes, KeepsOver}
 use Rattle.avs_compact.specs.Steps.{WritesOne}
 use Rattle.avs_compact.specs.Keeping.{IsPlaced}
 use Rattle.avs_compact.specs.Writing.{AreSplit, PutsBlocks, PutsShadow}
-use Rattle.avs_compact.proofs.Counts.{cond_is, cond_not}
 use Rattle.avs_compact.proofs.Work.{adds_same, adds_as, adds_then, sum_slot, sum_plus, sum_longer}
 use Rattle.avs_compact.proofs.Copied.{only_slot, other_slots, over_kept, slot_goes, slot_adds, slot_kept, slot_done, slot_failed}
 use Rattle.avs_compact.proofs.Readings.{shadow_at}

@@ -14,10 +14,10 @@ use Rattle.avs_dev.proofs.Going.{all_then, all_err}
 use Rattle.avs_flip.specs.Areas.{live}
 use Rattle.avs_over.specs.Slots.{Owners}
 use Rattle.avs_over.specs.Over.{OverSet}
+use Rattle.avs_entries.specs.Entries.{state_by, slot_by}
 use Rattle.avs_compact.specs.declared.fault.CompactFault.{CompactFault}
 use Rattle.avs_compact.specs.declared.fault.CompactFault.TheVariants.{Failed}
 use Rattle.avs_compact.specs.CompactSet.{CompactSet, disk_of, entry_of, disk_entry, chunks_of, shadow_image, master_image, room_of}
-use Rattle.avs_compact.specs.Entries.{state_by, slot_by}
 use Rattle.avs_compact.specs.Disks.{CompactDisk, Over, disk_at, Adds}
 use Rattle.avs_compact.specs.Work.{AddsUpTo, save_work, save_most, saved_work, saved_most, put_work, write_work, write_most}
 use Rattle.avs_compact.specs.Calls.{AreThere, IsKnown}
@@ -85,6 +85,7 @@ module _ (a b : CompactSet) (o o1 : OverSet) (m m1 : Seen) (at : ℕ) (bytes : L
           before = λ _. image;
           mix = subst (λ (l : Image). IsMix (shadow_image a o m.image) at (blocks_of bytes) l) (sym image) (IsMix-same (shadow_image a o m.image) at (blocks_of bytes));
         };
+    known = λ kn. tt;
     counts = tt;
     work = record { done = tt; stopped = λ k. omega (arith, p.work.stopped k) };
   }
@@ -209,9 +210,9 @@ module _ (a b : CompactSet) (o o1 : OverSet) (m m1 : Seen) (at : ℕ) (bytes : L
               done = λ kn placed td. record {
                 image = (w.blocks (p.known kn) (p.keeps.slots.placed placed) m1.image).done ∙ ap (λ (l : Image). put l at (blocks_of bytes)) (image_was d o2 (Ok y) w kn placed td);
                 split = splits_put d o2 (Ok y) w kn;
-                known = w.known (p.known kn);
               };
               stopped = λ kn placed td. tt;
+              known = λ kn. w.known (p.known kn);
               counts = counts_put d o2 (Ok y) w;
               work = work_put d o2 (Ok y) w (Ok tt) (let n = w.work m1 in record { done = n.done; most = tt });
             };
@@ -231,6 +232,7 @@ module _ (a b : CompactSet) (o o1 : OverSet) (m m1 : Seen) (at : ℕ) (bytes : L
                 before = λ less. absurd (omega (arith, less));
                 mix = subst (λ (l : Image). IsMix l at (blocks_of bytes) (shadow_image d o2 m1.image)) (image_was d o2 (Err e) w kn placed td) (w.blocks (p.known kn) (p.keeps.slots.placed placed) m1.image).stopped;
               };
+              known = λ kn. tt;
               counts = tt;
               work = work_put d o2 (Err e) w (Err Failed) (let n = w.work m1 in record { done = tt; most = n.most });
             };

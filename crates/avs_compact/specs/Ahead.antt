@@ -1,19 +1,22 @@
 -- Chunks that another set's update takes from the master: they are copied ahead into slots that are kept for them, and then staged as split.
-use Rattle.std.specs.Prelude.{◌≡◌, ◌≢◌, ◌⊎◌, ℕ, ◌+◌, ◌-◌, ◌*◌, ◌/◌, ◌%◌, ◌<◌, ◌≤◌, ◌==◌, nat_lt, min, Bool, true, false, ◌&&◌, if◌then◌else◌, List, length, filter, is_some, None, Some, Result, IsErr, OnOk, OnErr}
+use Rattle.std.specs.Prelude.{◌≡◌, ◌≢◌, ◌⊎◌, ℕ, ◌+◌, ◌-◌, ◌*◌, ◌/◌, ◌%◌, ◌<◌, ◌≤◌, Bool, true, false, ◌&&◌, List, length, filter, is_some, None, Some, Result, IsErr, OnOk, OnErr}
 use Rattle.std.specs.List.{range_with_len}
 use Rattle.avs_seg.specs.Image.{Image, block_at}
 use Rattle.avs_dev.specs.Seen.{Seen, IsTold}
 use Rattle.avs_dev.specs.Devices.{AllGoOn}
 use Rattle.avs_over.specs.Slots.{owner_at, given_to}
 use Rattle.avs_over.specs.Over.{OverSet}
-use Rattle.avs_compact.specs.Entries.{split, slot_by, entry_for, area_len}
-use Rattle.avs_compact.specs.CompactSet.{CompactSet, disk_of, chunks_of, entry_of, next_of, in_slot, need_of, room_of, is_own, is_over}
+use Rattle.avs_entries.specs.Entries.{split, slot_by, entry_for}
+use Rattle.avs_entries.specs.Counting.{is_own, is_over}
+pub use Rattle.avs_entries.specs.Parts.{part_blocks, split_to}
+use Rattle.avs_entries.specs.Parts.{is_ahead, lacking_told, part_end}
+use Rattle.avs_compact.specs.CompactSet.{CompactSet, disk_of, chunks_of, entry_of, next_of, in_slot, need_of, room_of}
 use Rattle.avs_compact.specs.Disks.{disk_at}
 use Rattle.avs_compact.specs.Work.{AddsUpTo, ahead_work, ahead_most}
 use Rattle.avs_compact.specs.Places.{KeepsOver}
 use Rattle.avs_compact.specs.Calls.{IsKnown}
 use Rattle.avs_compact.specs.Keeping.{IsPlaced, AreOwnFull, KeepsSlots, KeepsBlocks}
-use Rattle.avs_compact.specs.Staging.{told_by, is_ahead, lacking_told, part_end, StagesBlocks}
+use Rattle.avs_compact.specs.Staging.{StagesBlocks}
 
 -- the slot that is kept for a chunk
 abbrev pub slot_ahead : CompactSet → ℕ → ℕ
@@ -46,42 +49,40 @@ pub record IsKeptFor (old : CompactSet) (o : OverSet) (chunk : ℕ) (new : Compa
 abbrev pub kept_count : (ℕ → Bool) → CompactSet → (ℕ → Bool) → ℕ → ℕ → ℕ
 kept_count test s told first end = length (filter (λ c. told c && test (next_of s c)) (range_with_len first (end - first)))
 
--- Of the chunks from `first` up to `end` those of a list get slots that are kept for them, each its own. The set has room for so many less:
--- it keeps so many of its own slots more, and so many more of the overflow volume are given to it, of which one is only where all own
--- ones are used or kept.
-pub record KeepsSlotsFor (old : CompactSet) (o : OverSet) (told : ℕ → Bool) (first end : ℕ) (new : CompactSet) (o_new : OverSet) : Type 0 where
-  pub kept : (c : ℕ) → first ≤ c → c < end → told c ≡ true → IsKeptFor old o c new o_new
-  pub others : (c : ℕ) → (c < first) ⊎ ((end ≤ c) ⊎ (told c ≡ false)) → next_of new c ≡ next_of old c
-  pub apart : (c d : ℕ) → first ≤ c → c < d → d < end → told c ≡ true → told d ≡ true → slot_ahead new c ≢ slot_ahead new d
-  pub room : room_of new o_new + length (filter told (range_with_len first (end - first))) ≡ room_of old o
-  pub low : old.low ≤ new.low
-  pub own : new.ahead ≡ old.ahead + kept_count (is_own old.own) new told first end
-  pub over : given_to old.set o_new.owners ≡ given_to old.set o.owners + kept_count (is_over old.own) new told first end
-  pub own_first : AreOwnFull old ⊎ (0 < kept_count (is_over old.own) new told first end) → AreOwnFull new
+-- the chunks of a list, of those from `first` up to `end`
+pub record ToldChunks : Type 0 where
+  pub told : ℕ → Bool
+  pub first : ℕ
+  pub end : ℕ
 
--- those chunks stand in their slots as on the master, and the other slots as before
-pub record AreCopied (old : CompactSet) (o : OverSet) (m : Image) (told : ℕ → Bool) (first end : ℕ) (new : CompactSet) (o_new : OverSet) : Type 0 where
-  pub each : (i : ℕ) → i < old.blocks → first ≤ i / 64 → i / 64 < end → told (i / 64) ≡ true → stands_ahead new o_new i ≡ block_at m i
-  pub others : (k i : ℕ) → i < 64 → ((c : ℕ) → first ≤ c → c < end → told c ≡ true → slot_ahead new c ≢ k)
+abbrev pub told_from : (ℕ → Bool) → ℕ → ℕ → ToldChunks
+told_from told first end = record { told = told; first = first; end = end }
+
+-- They get slots that are kept for them, each its own. The set has room for so many less: it keeps so many of its own slots more, and so
+-- many more of the overflow volume are given to it, of which one is only where all own ones are used or kept.
+pub record KeepsSlotsFor (old : CompactSet) (o : OverSet) (t : ToldChunks) (new : CompactSet) (o_new : OverSet) : Type 0 where
+  pub kept : (c : ℕ) → t.first ≤ c → c < t.end → t.told c ≡ true → IsKeptFor old o c new o_new
+  pub others : (c : ℕ) → (c < t.first) ⊎ ((t.end ≤ c) ⊎ (t.told c ≡ false)) → next_of new c ≡ next_of old c
+  pub apart : (c d : ℕ) → t.first ≤ c → c < d → d < t.end → t.told c ≡ true → t.told d ≡ true → slot_ahead new c ≢ slot_ahead new d
+  pub room : room_of new o_new + length (filter t.told (range_with_len t.first (t.end - t.first))) ≡ room_of old o
+  pub low : old.low ≤ new.low
+  pub own : new.ahead ≡ old.ahead + kept_count (is_own old.own) new t.told t.first t.end
+  pub over : given_to old.set o_new.owners ≡ given_to old.set o.owners + kept_count (is_over old.own) new t.told t.first t.end
+  pub own_first : AreOwnFull old ⊎ (0 < kept_count (is_over old.own) new t.told t.first t.end) → AreOwnFull new
+
+-- they stand in their slots as on the master, and the other slots as before
+pub record AreCopied (old : CompactSet) (o : OverSet) (m : Image) (t : ToldChunks) (new : CompactSet) (o_new : OverSet) : Type 0 where
+  pub each : (i : ℕ) → i < old.blocks → t.first ≤ i / 64 → i / 64 < t.end → t.told (i / 64) ≡ true → stands_ahead new o_new i ≡ block_at m i
+  pub others : (k i : ℕ) → i < 64 → ((c : ℕ) → t.first ≤ c → c < t.end → t.told c ≡ true → slot_ahead new c ≢ k)
       → in_slot old.own (disk_of new.shadow).image o_new.disk.image k i ≡ in_slot old.own (disk_of old.shadow).image o.disk.image k i
 
 -- Of the chunks from `first` up to `end` those of a list, which have no slot, are copied ahead into slots that the set takes.
 pub record CopiesTold {T E : Type 0} (old : CompactSet) (o : OverSet) (m : Seen) (told : ℕ → Bool) (first end : ℕ) (result : Result T E) (new : CompactSet) (o_new : OverSet) (m_new : Seen) : Type 0 where
   pub keeps : KeepsAhead old o m result new o_new m_new
-  pub kept : OnOk result (KeepsSlotsFor old o told first end new o_new)
-  pub copied : IsTold m → IsTold (disk_of old.shadow) → IsTold o.disk → OnOk result (AreCopied old o m.image told first end new o_new)
+  pub kept : OnOk result (KeepsSlotsFor old o (told_from told first end) new o_new)
+  pub copied : IsTold m → IsTold (disk_of old.shadow) → IsTold o.disk → OnOk result (AreCopied old o m.image (told_from told first end) new o_new)
   pub work : AddsUpTo (disk_at old o m) (ahead_work old new told first (end - first)) (ahead_most old told first (end - first)) result
       (disk_at new o_new m_new)
-
--- how many blocks of entries a part has, of so many chunks
-abbrev pub part_blocks : ℕ → ℕ → ℕ
-part_blocks chunks part = min 16 (area_len chunks - 16 * part)
-
--- The entry of a chunk where those of a part that bits tell are split: in the slot that it has, or in the one that is kept for it. Bits behind
--- the last chunk stand for none.
-abbrev pub split_to : ℕ → List ℕ → ℕ → (ℕ → ℕ) → (ℕ → ℕ) → ℕ → ℕ
-split_to chunks bits part entries kept c =
-    if nat_lt c chunks && told_by bits part c then (if entries c == 0 then kept c else entry_for split (slot_by (entries c))) else entries c
 
 -- the entries of a set where those chunks of a part that bits tell are split
 abbrev pub split_of : CompactSet → ℕ → List ℕ → ℕ → ℕ

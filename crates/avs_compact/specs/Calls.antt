@@ -4,7 +4,7 @@ use Rattle.avs_seg.specs.Image.{blocks_of, range}
 use Rattle.avs_dev.specs.Seen.{Seen, IsTold, Reads}
 use Rattle.avs_dev.specs.Devices.{AllGoOn}
 use Rattle.avs_over.specs.Over.{OverSet, ReadsSlot, slots}
-use Rattle.avs_compact.specs.Entries.{slot_by}
+use Rattle.avs_entries.specs.Entries.{slot_by}
 use Rattle.avs_compact.specs.CompactSet.{CompactSet, disk_of, entry_of, chunks_of, shadow_image, IsInStep}
 use Rattle.avs_compact.specs.Disks.{disk_at}
 

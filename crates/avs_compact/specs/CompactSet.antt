@@ -1,16 +1,15 @@
 -- A compact set: its disks, and the two images that they stand for over an image of the master's disk and an overflow volume.
-use Rattle.std.specs.Prelude.{◌≡◌, ℕ, ◌+◌, ◌-◌, ◌*◌, ◌/◌, ◌%◌, ◌<◌, ◌==◌, nat_lt, nat_le, Bool, ◌&&◌, not, true, false, if◌then◌else◌, List, [], length, filter, Option, None, Some}
-use Rattle.std.specs.List.{range_with_len}
+use Rattle.std.specs.Prelude.{◌≡◌, ℕ, ◌+◌, ◌-◌, ◌*◌, ◌/◌, ◌%◌, ◌<◌, ◌==◌, nat_lt, true, false, if◌then◌else◌, List, [], Option, None, Some}
 use Rattle.avs_seg.specs.Image.{Block, Image, block_at, tabulate}
 use Rattle.avs_seg.specs.Segment.{seg_count}
 use Rattle.avs_dev.specs.Seen.{Seen}
 use Rattle.avs_flip.specs.Areas.{Areas, live, staged}
 use Rattle.avs_over.specs.Slots.{given_to}
 use Rattle.avs_over.specs.Over.{OverSet, slots, used, slot_from}
-use Rattle.avs_code.specs.Label.{IsLabel, label_for}
-use Rattle.avs_code.specs.declared.labels.Label.{Label}
-use Rattle.avs_code.specs.declared.labels.LabelUse.{LabelUse}
-use Rattle.avs_compact.specs.Entries.{on_shadow, state_by, slot_by, entry_in, entry_on}
+use Rattle.avs_code.specs.Label.{IsLabel}
+use Rattle.avs_entries.specs.Entries.{on_shadow, state_by, slot_by, entry_in, entry_on}
+use Rattle.avs_entries.specs.Counting.{is_touched, is_own, is_over, count_of}
+use Rattle.avs_entries.specs.Bitmap.{compact_label}
 
 -- a set: the number by which it takes slots of an overflow volume, how many slots its shadow's disk has, that disk where it is
 -- there, the areas of the entries on the bitmap's disk, the entries in memory, those that are staged, how many blocks it has, and the
@@ -89,20 +88,6 @@ master_image s o master = master_by s.blocks s.own (live s.areas) (disk_of s.sha
 pub record IsInStep (s : CompactSet) : Type 0 where
   pub each : (c : ℕ) → c < chunks_of s → entry_of s c ≡ disk_entry s c
 
--- an entry tells that its chunk was touched; that its slot is one of the set's own; that it is one of the overflow volume
-abbrev pub is_touched : ℕ → Bool
-is_touched entry = not (entry == 0)
-
-abbrev pub is_own : ℕ → ℕ → Bool
-is_own own entry = is_touched entry && nat_lt (slot_by entry) own
-
-abbrev pub is_over : ℕ → ℕ → Bool
-is_over own entry = is_touched entry && nat_le own (slot_by entry)
-
--- of the first n chunks, how many have an entry that passes a test
-abbrev pub count_of : (ℕ → Bool) → (ℕ → ℕ) → ℕ → ℕ
-count_of test entries n = length (filter (λ c. test (entries c)) (range_with_len 0 n))
-
 -- what the set needs: a slot for each chunk that was touched
 abbrev pub need_of : CompactSet → ℕ
 need_of s = count_of is_touched (entry_of s) (chunks_of s)
@@ -131,14 +116,6 @@ HasTaken s o = (given_to s.set o.owners ≡ over_used s) × (s.ahead ≡ 0)
 -- the room of a set: its own slots but those that are kept, and of its overflow volume those that it uses and those that are free
 abbrev pub room_of : CompactSet → OverSet → ℕ
 room_of s o = s.own - s.ahead + over_used s + (slots o - used o)
-
--- what a bitmap serves as that has the entries of a set of so many blocks
-abbrev pub compact_use : ℕ → LabelUse
-compact_use blocks = record { kind = 6; blocks = blocks; segments = seg_count blocks }
-
--- its label
-abbrev pub compact_label : ℕ → Label
-compact_label blocks = label_for (compact_use blocks) 0
 
 -- the bitmap's disk has the label of the set
 pub record HasLabel (s : CompactSet) : Type 0 where

@@ -1,17 +1,11 @@
 -- Copy steps: a chunk that stands in its slot alone is copied to the master.
-use Rattle.std.specs.Prelude.{◌≡◌, ◌≢◌, ℕ, ◌<◌, Option, None, Some, IfSome, IfNone, Result, IsOk, IfOk}
+use Rattle.std.specs.Prelude.{◌≡◌, ◌≢◌, ℕ, Option, None, Some, Result, IsOk, IfOk}
 use Rattle.avs_dev.specs.Seen.{Seen}
 use Rattle.avs_over.specs.Over.{OverSet}
-use Rattle.avs_compact.specs.Entries.{on_both, on_shadow, state_by}
+use Rattle.avs_entries.specs.Entries.{on_both, on_shadow, state_by}
+pub use Rattle.avs_entries.specs.Counting.{FindsDue}
 use Rattle.avs_compact.specs.CompactSet.{CompactSet, chunks_of, entry_of}
 use Rattle.avs_compact.specs.Keeping.{Settles, DoesNothing}
-
--- the least of n chunks that stands in its slot alone, and None where there is none
-pub record FindsDue (entries : ℕ → ℕ) (n : ℕ) (result : Option ℕ) : Type 0 where
-  pub there : IfSome result (λ c. c < n)
-  pub due : IfSome result (λ c. state_by (entries c) ≡ on_shadow)
-  pub least : IfSome result (λ c. (d : ℕ) → d < c → state_by (entries d) ≢ on_shadow)
-  pub none : IfNone result ((d : ℕ) → d < n → state_by (entries d) ≢ on_shadow)
 
 -- that chunk is settled as the same on both, and without one nothing is done
 abbrev pub CopiesDue : {E : Type 0} → CompactSet → OverSet → Seen → Option ℕ → Result (Option ℕ) E → CompactSet → OverSet → Seen → Type 0

@@ -5,8 +5,9 @@ use Rattle.avs_dev.specs.Seen.{Seen, IsTold}
 use Rattle.avs_dev.specs.Devices.{AllGoOn}
 use Rattle.avs_flip.specs.Areas.{staged}
 use Rattle.avs_over.specs.Over.{OverSet}
-use Rattle.avs_compact.specs.Entries.{on_both, split, on_shadow, state_by, slot_by}
-use Rattle.avs_compact.specs.CompactSet.{CompactSet, disk_of, entry_of, disk_entry, chunks_of, in_slot, need_of, is_own, is_over, count_of, HasTaken, own_used, room_of}
+use Rattle.avs_entries.specs.Entries.{on_both, split, on_shadow, state_by, slot_by}
+use Rattle.avs_entries.specs.Counting.{is_own, is_over, count_of}
+use Rattle.avs_compact.specs.CompactSet.{CompactSet, disk_of, entry_of, disk_entry, chunks_of, in_slot, need_of, HasTaken, own_used, room_of}
 use Rattle.avs_compact.specs.Disks.{disk_at}
 use Rattle.avs_compact.specs.Work.{AddsUpTo, settled_work, settled_most}
 use Rattle.avs_compact.specs.Places.{ArePlaced, OnlyTakes, KeepsOver, SetsEntry, AreSame}

@@ -1,11 +1,8 @@
-pub mod Entries
 pub mod Disks
 pub mod CompactSet
 pub mod Work
-pub mod Slots
+pub mod Kept
 pub mod Places
-pub mod Counting
-pub mod Tallied
 pub mod Calls
 pub mod Steps
 pub mod Keeping

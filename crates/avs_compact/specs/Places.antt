@@ -3,7 +3,7 @@ use Rattle.std.specs.Prelude.{◌≡◌, ◌≢◌, ◌⊎◌, ℕ, ◌+◌, ◌
 use Rattle.avs_seg.specs.Image.{block_at}
 use Rattle.avs_over.specs.Slots.{Owners, owner_at}
 use Rattle.avs_over.specs.Over.{OverSet, slot_from}
-use Rattle.avs_compact.specs.Entries.{IsEntry, slot_by, state_by}
+use Rattle.avs_entries.specs.Entries.{IsEntry, slot_by, state_by}
 
 -- each of the first n entries has its form, no slot stands in two of them, and those of the overflow volume are given to the set
 pub record ArePlaced (entries : ℕ → ℕ) (own n set : ℕ) (owners : Owners) : Type 0 where

@@ -3,9 +3,9 @@ use Rattle.std.specs.Prelude.{◌≡◌, ◌≢◌, ℕ, ◌+◌, ◌<◌, ◌�
 use Rattle.std.specs.List.{range_with_len}
 use Rattle.avs_dev.specs.Seen.{Seen}
 use Rattle.avs_over.specs.Over.{OverSet}
+use Rattle.avs_entries.specs.Entries.{split, state_by}
 use Rattle.avs_compact.specs.declared.fault.CompactFault.{CompactFault}
 use Rattle.avs_compact.specs.declared.fault.CompactFault.TheVariants.{Offline, Failed}
-use Rattle.avs_compact.specs.Entries.{split, state_by}
 use Rattle.avs_compact.specs.CompactSet.{CompactSet, entry_of, disk_entry, chunks_of, need_of, room_of}
 use Rattle.avs_compact.specs.Disks.{disk_at}
 use Rattle.avs_compact.specs.Work.{AddsUpTo, saved_work, saved_most}

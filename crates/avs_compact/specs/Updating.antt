@@ -4,12 +4,13 @@ use Rattle.std.specs.List.{range_with_len}
 use Rattle.avs_seg.specs.declared.fault.Failed.{Failed}
 use Rattle.avs_dev.specs.Seen.{Seen}
 use Rattle.avs_over.specs.Over.{OverSet}
-use Rattle.avs_compact.specs.Entries.{on_shadow, state_by}
+use Rattle.avs_entries.specs.Entries.{on_shadow, state_by}
+use Rattle.avs_entries.specs.Parts.{told_by, is_ahead, part_blocks}
 use Rattle.avs_compact.specs.CompactSet.{CompactSet, chunks_of, entry_of, need_of, HasTaken}
 use Rattle.avs_compact.specs.Calls.{IsKnown}
 use Rattle.avs_compact.specs.Keeping.{IsPlaced, UsesOwnFirst}
-use Rattle.avs_compact.specs.Staging.{StagesBlocks, StagesAll, TurnsSet, told_by, is_ahead}
-use Rattle.avs_compact.specs.Ahead.{CopiesTold, CopiesPart, part_blocks, split_of}
+use Rattle.avs_compact.specs.Staging.{StagesBlocks, StagesAll, TurnsSet}
+use Rattle.avs_compact.specs.Ahead.{CopiesTold, CopiesPart, split_of}
 
 -- whether the bits of its part tell a chunk
 abbrev pub told_in : (ℕ → List ℕ) → ℕ → Bool

@@ -3,7 +3,7 @@ use Rattle.std.specs.Prelude.{◌≡◌, ℕ, ◌+◌, ◌/◌, ◌≤◌, ◌==
 use Rattle.std.specs.List.{range_with_len, sum_by}
 use Rattle.avs_seg.specs.Segment.{first_segment, touch_count, seg_len}
 use Rattle.avs_dev.specs.Seen.{Seen}
-use Rattle.avs_compact.specs.Entries.{on_master, split, on_shadow, state_by, slot_by}
+use Rattle.avs_entries.specs.Entries.{on_master, split, on_shadow, state_by, slot_by}
 use Rattle.avs_compact.specs.CompactSet.{CompactSet, entry_of, next_of}
 use Rattle.avs_compact.specs.Disks.{CompactDisk, Master, Shadow, Bitmap, Over, raised}
 

@@ -4,7 +4,7 @@ use Rattle.std.specs.Option.{option_map}
 use Rattle.avs_model.specs.declared.shadow.Kind.TheVariants.{Compact}
 use Rattle.avs_model.specs.ShadowSets.{ShadowState}
 use Rattle.avs_model.specs.GroupWork.{GroupSpot, VolumeDisk, ShadowDisk, BitmapDisk, OverDisk}
-use Rattle.avs_compact.specs.Entries.{on_master, split, on_shadow, state_by}
+use Rattle.avs_entries.specs.Entries.{on_master, split, on_shadow, state_by}
 use Rattle.avs_compact.specs.CompactSet.{CompactSet, chunks_of, entry_of}
 use Rattle.avs_compact.specs.Disks.{CompactDisk, Master, Shadow, Bitmap, Over}
 

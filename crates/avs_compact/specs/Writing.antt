@@ -5,9 +5,9 @@ use Rattle.avs_seg.specs.Segment.{first_segment, touch_count}
 use Rattle.avs_dev.specs.Seen.{Seen, IsTold}
 use Rattle.avs_dev.specs.Devices.{AllGoOn}
 use Rattle.avs_over.specs.Over.{OverSet}
+use Rattle.avs_entries.specs.Entries.{split, state_by}
 use Rattle.avs_compact.specs.declared.fault.CompactFault.{CompactFault}
 use Rattle.avs_compact.specs.declared.fault.CompactFault.TheVariants.{Failed}
-use Rattle.avs_compact.specs.Entries.{split, state_by}
 use Rattle.avs_compact.specs.CompactSet.{CompactSet, entry_of, disk_entry, chunks_of, shadow_image, master_image, room_of}
 use Rattle.avs_compact.specs.Disks.{disk_at, Adds}
 use Rattle.avs_compact.specs.Work.{AddsUpTo, put_work, write_work, write_most}
@@ -38,17 +38,16 @@ pub record PutsShadow {T E : Type 0} (old : CompactSet) (o : OverSet) (at : ℕ)
   pub known : IsKnown old o → IsKnown new o_new
   pub work : (m : Seen) → Adds (disk_at old o m) (put_work old at (length bs)) result (disk_at new o_new m)
 
--- what a write to the shadow leaves: the blocks put into its image, and the chunks of the range split
-pub record WritesAll (old : CompactSet) (o : OverSet) (m : Image) (at : ℕ) (bs : Image) (new : CompactSet) (o_new : OverSet) (m_new : Image) : Type 0 where
-  pub image : shadow_image new o_new m_new ≡ put (shadow_image old o m) at bs
+-- what a write leaves of the shadow's image, and of the entries: the blocks put into it, and the chunks of the range split
+pub record WritesAll (old : CompactSet) (shadow : Image) (at : ℕ) (bs : Image) (new : CompactSet) (shadow_new : Image) : Type 0 where
+  pub image : shadow_new ≡ put shadow at bs
   pub split : Splits (disk_entry old) (disk_entry new) (chunks_of old) (first_segment at) (first_segment at + touch_count at (length bs))
-  pub known : IsKnown new o_new
 
 -- what one leaves that stopped: some chunks of the range are split, from the first on, and of its blocks each is old or new
-pub record StopsWrite (old : CompactSet) (o : OverSet) (m : Image) (at : ℕ) (bs : Image) (new : CompactSet) (o_new : OverSet) (m_new : Image) : Type 0 where
+pub record StopsWrite (old : CompactSet) (shadow : Image) (at : ℕ) (bs : Image) (new : CompactSet) (shadow_new : Image) : Type 0 where
   pub saved : SplitsFirst (disk_entry old) (disk_entry new) (chunks_of old) (first_segment at) (first_segment at + touch_count at (length bs))
-  pub before : saved.upto < first_segment at + touch_count at (length bs) → shadow_image new o_new m_new ≡ shadow_image old o m
-  pub mix : IsMix (shadow_image old o m) at bs (shadow_image new o_new m_new)
+  pub before : saved.upto < first_segment at + touch_count at (length bs) → shadow_new ≡ shadow
+  pub mix : IsMix shadow at bs shadow_new
 
 -- the master's image stays, and what is the same on both stays so
 pub record KeepsMaster (old : CompactSet) (o : OverSet) (m : Image) (new : CompactSet) (o_new : OverSet) (m_new : Image) : Type 0 where
@@ -68,8 +67,11 @@ pub record KeepsWritten {T E : Type 0} (old : CompactSet) (o : OverSet) (m : See
 -- the chunks of a range are saved, and then the range is written in their slots
 pub record WritesRange {T E : Type 0} (old : CompactSet) (o : OverSet) (m : Seen) (at : ℕ) (bytes : List ℕ) (result : Result T E) (new : CompactSet) (o_new : OverSet) (m_new : Seen) : Type 0 where
   pub keeps : KeepsWritten old o m result new o_new m_new
-  pub done : IsKnown old o → IsPlaced old o → IsTold m → OnOk result (WritesAll old o m.image at (blocks_of bytes) new o_new m_new.image)
-  pub stopped : IsKnown old o → IsPlaced old o → IsTold m → OnErr result (StopsWrite old o m.image at (blocks_of bytes) new o_new m_new.image)
+  pub done : IsKnown old o → IsPlaced old o → IsTold m
+      → OnOk result (WritesAll old (shadow_image old o m.image) at (blocks_of bytes) new (shadow_image new o_new m_new.image))
+  pub stopped : IsKnown old o → IsPlaced old o → IsTold m
+      → OnErr result (StopsWrite old (shadow_image old o m.image) at (blocks_of bytes) new (shadow_image new o_new m_new.image))
+  pub known : IsKnown old o → OnOk result (IsKnown new o_new)
   pub counts : OnOk result (CountsSlots old o (lacking old (first_segment at) (touch_count at (length bytes / 512))) new o_new)
   pub work : AddsUpTo (disk_at old o m) (write_work old new at (length bytes / 512)) (write_most old at (length bytes / 512)) result
       (disk_at new o_new m_new)

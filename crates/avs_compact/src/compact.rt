@@ -1,16 +1,16 @@
 // A compact set over the disk of its master.
-ghost use Rattle.std.specs.Prelude.{◌≡◌, ◌*◌, ◌+◌, ◌<◌, ◌≤◌, ◌^◌, IfOk, IfErr, None, Some, is_some};
+ghost use Rattle.std.specs.Prelude.{◌≡◌, ◌+◌, ◌*◌, ◌/◌, ◌<◌, ◌≤◌, ◌^◌, IfOk, IfErr, None, Some, is_some, length};
 ghost use Rattle.std.specs.Option.{option_map};
 ghost use Rattle.avs_seg.specs.Segment.{seg_count};
-ghost use Rattle.avs_compact.specs.Entries.{entry_in};
-ghost use Rattle.avs_compact.specs.CompactSet.{chunks_of, entry_of, own_slots};
-ghost use Rattle.avs_compact.specs.Slots.{AreEntries, IsKept, Marks};
-ghost use Rattle.avs_compact.specs.Making.{Makes, MakeRefused, Loads, LoadRefused, Fits, areas_on, own_of};
+ghost use Rattle.avs_entries.specs.Entries.{entry_in};
+ghost use Rattle.avs_entries.specs.Slots.{AreEntries, Marks};
+ghost use Rattle.avs_entries.specs.Bitmap.{LoadRefused, Fits, areas_on};
+ghost use Rattle.avs_compact.specs.CompactSet.{chunks_of, entry_of};
+ghost use Rattle.avs_compact.specs.Kept.{IsKept, AreHeld};
+ghost use Rattle.avs_compact.specs.Making.{Makes, MakeRefused, Loads, own_of};
 
-use crate::formats::{Found, Room, area_len, find, format, make_room};
-use crate::marks::Counts;
-use crate::tally::Tally;
 use avs_dev::{Back, Closed2, Disk, Why};
+use avs_entries::{Counts, Found, Room, Tally, area_len, find, format, make_room, map_anew};
 use avs_flip::Flip;
 use avs_seg::{Failed, SEGMENT, seg_count};
 use std::alloc::Global;
@@ -50,27 +50,35 @@ pub struct Compact<D: Disk> {
     pub(crate) ahead: u32,
     // No chunk below this one stands in its slot alone.
     pub(crate) due: u32,
+    // A bit for each chunk, which is set where it does.
+    pub(crate) map: Vec<u8>,
     pub(crate) blocks: u32,
     // Room for a chunk.
     pub(crate) buffer: Vec<u8>,
 }
 
 impl<D: Disk> Model for Compact<D> {
+    ghost use Rattle.std.specs.Prelude.{◌≡◌, length};
     ghost use Rattle.std.specs.Option.{option_map};
     ghost use Rattle.avs_seg.specs.Segment.{seg_count};
-    ghost use Rattle.avs_compact.specs.Entries.{entry_in};
+    ghost use Rattle.avs_entries.specs.Entries.{entry_in};
+    ghost use Rattle.avs_entries.specs.Counting.{IsMapped};
+    ghost use Rattle.avs_entries.specs.Slots.{Marks};
+    ghost use Rattle.avs_entries.specs.Tallied.{AreTallied};
     ghost use Rattle.avs_compact.specs.CompactSet.{CompactSet};
-    ghost use Rattle.avs_compact.specs.Slots.{IsKept, Marks, ArePassed};
-    ghost use Rattle.avs_compact.specs.Tallied.{AreTallied};
+    ghost use Rattle.avs_compact.specs.Kept.{IsKept, AreHeld, ArePassed};
 
     ghost Value = { CompactSet };
 
     ghost view = { λ s. record { set = s.set; own = s.own; shadow = option_map D.seen s.shadow; areas = s.flip; memory = s.memory.items; next = s.next.items; blocks = s.blocks; low = s.low; ahead = s.ahead } };
 
-    ghost invariant = { λ s. IsKept (option_map D.seen s.shadow) s.own s.flip s.memory.items s.next.items s.buffer.items s.blocks
+    ghost invariant = { λ s. IsKept (option_map D.seen s.shadow) s.own s.flip s.blocks
         × Marks (entry_in s.memory.items) s.own (seg_count s.blocks) s.table.items s.counts
         × ArePassed (entry_in s.memory.items) (seg_count s.blocks) s.table.items s.low s.ahead s.due
-        × AreTallied (entry_in s.memory.items) s.own (seg_count s.blocks) s.tally };
+        × AreTallied (entry_in s.memory.items) s.own (seg_count s.blocks) s.tally
+        × AreHeld s.flip s.memory.items s.next.items s.blocks
+        × (length s.buffer.items ≡ 32768)
+        × IsMapped (entry_in s.memory.items) (seg_count s.blocks) s.map.items };
 }
 
 impl<D: Disk> Compact<D> {
@@ -155,8 +163,10 @@ impl<D: Disk> Compact<D> {
         live_b: bool,
         found: Found,
     ) -> Compact<D>
-        requires kept { IsKept (option_map D.seen shadow) own (areas_on (D.seen bitmap) blocks live_b) found.room.memory.items
-            found.room.next.items found.room.buffer.items blocks }
+        requires kept { IsKept (option_map D.seen shadow) own (areas_on (D.seen bitmap) blocks live_b) blocks }
+        requires held { AreHeld (areas_on (D.seen bitmap) blocks live_b) found.room.memory.items found.room.next.items blocks }
+        requires buffer { length found.room.buffer.items ≡ 32768 }
+        requires map { length found.room.map.items ≡ (seg_count blocks + 7) / 8 }
         requires marked { Marks (entry_in found.room.memory.items) own (seg_count blocks) found.room.table.items found.counts }
         ensures { result ≡ record {
           set = set;
@@ -176,7 +186,9 @@ impl<D: Disk> Compact<D> {
             next,
             table,
             buffer,
+            mut map,
         } = room;
+        map_anew(&mut map, &memory, seg_count(blocks));
         Compact {
             set,
             own,
@@ -190,6 +202,7 @@ impl<D: Disk> Compact<D> {
             low: 0,
             ahead: 0,
             due: 0,
+            map,
             blocks,
             buffer,
         }

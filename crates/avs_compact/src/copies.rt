@@ -1,14 +1,14 @@
 // Chunks that are copied into a slot, and out of one.
-ghost use Rattle.std.specs.Prelude.{◌≡◌, ◌≢◌, ◌+◌, ◌*◌, ◌<◌, ◌≤◌, IsTrue, is_some, length};
+ghost use Rattle.std.specs.Prelude.{◌≡◌, ◌+◌, ◌*◌, ◌<◌, ◌≤◌, IsTrue, is_some, length};
 ghost use Rattle.std.specs.Option.{option_map};
-ghost use Rattle.avs_compact.specs.Entries.{slot_by};
+ghost use Rattle.avs_entries.specs.Entries.{slot_by};
 ghost use Rattle.avs_compact.specs.CompactSet.{disk_of, over_of};
 ghost use Rattle.avs_compact.specs.Calls.{IsInSlot};
 ghost use Rattle.avs_compact.specs.Steps.{CopiesIn, CopiesOut, CopiesBack};
 
-use crate::entries::{ChunkState, slot_by, state_by};
 use crate::slots::{read_slot, write_slot};
 use avs_dev::Disk;
+use avs_entries::{ChunkState, slot_by, state_by};
 use avs_over::Over;
 use avs_seg::{BLOCK, Failed, Span};
 

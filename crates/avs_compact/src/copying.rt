@@ -1,29 +1,16 @@
 // Copy steps: chunks that stand in their slots alone are copied to the master.
-ghost use Rattle.std.specs.Prelude.{◌≡◌, ◌+◌, ◌*◌, ◌<◌, ◌≤◌, ℕ, ◌≢◌, IsTrue, IfSome, IfNone, is_some, length};
-ghost use Rattle.avs_compact.specs.Entries.{entry_in, state_by, on_shadow};
+ghost use Rattle.std.specs.Prelude.{◌≡◌, ◌<◌, IsTrue, IfSome, IfNone, is_some};
+ghost use Rattle.avs_entries.specs.Entries.{entry_in, state_by};
+ghost use Rattle.avs_entries.specs.Counting.{FindsDue};
 ghost use Rattle.avs_compact.specs.CompactSet.{chunks_of, entry_of, over_of};
 ghost use Rattle.avs_compact.specs.Calls.{AreThere};
-ghost use Rattle.avs_compact.specs.Copying.{FindsDue, CopiesOne, BringsBack};
+ghost use Rattle.avs_compact.specs.Copying.{CopiesOne, BringsBack};
 
 use crate::compact::Compact;
-use crate::entries::{ChunkState, entry_in, state_by};
 use avs_dev::Disk;
+use avs_entries::{ChunkState, entry_in, first_due, state_by};
 use avs_over::Over;
 use avs_seg::{Failed, seg_count};
-
-// The least chunk from one on, below an end, that stands in its slot alone.
-fn first_due(bytes: &[u8], from: u32, end: u32) -> Option<u32>
-    requires inside { 4 * end ≤ length bytes.now }
-    requires before { (c : ℕ) → c < from → c < end → state_by (entry_in bytes.now c) ≢ on_shadow }
-    ensures { FindsDue (entry_in bytes.now) end result }
-{
-    for chunk in from..end {
-        if state_by(entry_in(bytes, chunk)) == ChunkState::OnShadow {
-            return Some(chunk);
-        }
-    }
-    None
-}
 
 // The end of the chunks that were passed, below an end, until one was found.
 fn passed(found: Option<u32>, end: u32) -> u32
@@ -37,7 +24,8 @@ fn passed(found: Option<u32>, end: u32) -> u32
 }
 
 impl<D: Disk> Compact<D> {
-    // The least chunk that stands in its slot alone. Those below it are not looked at again.
+    // The least chunk that stands in its slot alone. Those below it are not looked at again, and words of chunks of
+    // which none does are passed at once.
     fn next_due(&mut self) -> Option<u32>
         ensures finds { FindsDue (entry_of self.old) (chunks_of self.old) result }
         ensures same { self.new ≡ self.old }
@@ -46,7 +34,7 @@ impl<D: Disk> Compact<D> {
             return None;
         }
         let end = seg_count(self.blocks);
-        let found = first_due(&self.memory, self.due, end);
+        let found = first_due(&self.memory, &self.map, self.due, end);
         self.due = passed(found, end);
         found
     }
@@ -61,7 +49,8 @@ impl<D: Disk> Compact<D> {
         requires blocks { (D.seen master.old).size ≡ self.old.blocks }
         requires there { IsTrue (is_some self.old.shadow) }
         requires slots { AreThere self.old (over_of over.old) }
-        ensures { CopiesOne self.old (over_of over.old) (D.seen master.old) result self.new (over_of over.new) (D.seen master.new) }
+        ensures copies { CopiesOne self.old (over_of over.old) (D.seen master.old) result self.new (over_of over.new) (D.seen master.new) }
+        ensures still { is_some over.new ≡ is_some over.old }
     {
         let Some(chunk) = self.next_due() else {
             return Ok(None);
@@ -81,7 +70,9 @@ impl<D: Disk> Compact<D> {
         requires blocks { (D.seen master.old).size ≡ self.old.blocks }
         requires there { IsTrue (is_some self.old.shadow) }
         requires slots { AreThere self.old (over_of over.old) }
-        ensures { BringsBack self.old (over_of over.old) (D.seen master.old) chunk result self.new (over_of over.new) (D.seen master.new) }
+        ensures brings { BringsBack self.old (over_of over.old) (D.seen master.old) chunk result
+            self.new (over_of over.new) (D.seen master.new) }
+        ensures still { is_some over.new ≡ is_some over.old }
     {
         if state_by(entry_in(&self.memory, chunk)) != ChunkState::OnShadow {
             return Ok(());

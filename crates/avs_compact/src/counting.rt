@@ -1,28 +1,17 @@
 // How many slots a set needs and has, and how many of its chunks are in a state.
-ghost use Rattle.std.specs.Prelude.{◌≡◌, ◌-◌, ◌<◌, ◌≤◌, ◌^◌, IsTrue, not, IsOk, IfOk, IfSome, IfNone, true, false};
+ghost use Rattle.std.specs.Prelude.{◌≡◌, ◌-◌, ◌<◌, ◌≤◌, ◌^◌, IsTrue, not, IsOk, IfOk};
 ghost use Rattle.avs_over.specs.Over.{slots, used};
-ghost use Rattle.avs_compact.specs.Entries.{code_of, state_by, slot_by, on_shadow, split};
-ghost use Rattle.avs_compact.specs.CompactSet.{chunks_of, entry_of, over_of, need_of, over_used, room_of, room_by_rule, HasTaken, is_over, count_of};
-ghost use Rattle.avs_compact.specs.Counting.{FindsOver, is_in};
+ghost use Rattle.avs_entries.specs.Entries.{code_of, state_by, on_shadow, split};
+ghost use Rattle.avs_entries.specs.Counting.{count_of, FindsOver, is_in};
+ghost use Rattle.avs_compact.specs.CompactSet.{chunks_of, entry_of, over_of, need_of, over_used, room_of, room_by_rule, HasTaken};
 ghost use Rattle.avs_compact.specs.Calls.{AreThere, LacksSlot};
 ghost use Rattle.avs_compact.specs.Keeping.{UsesOwnFirst};
 
 use crate::compact::Compact;
-use crate::entries::{ChunkState, entry_in, slot_by, state_by};
 use avs_dev::Disk;
+use avs_entries::{ChunkState, entry_in, first_over, state_by};
 use avs_over::Over;
 use avs_seg::{Failed, seg_count};
-
-// The slot of the overflow volume that an entry tells.
-fn over_slot(entry: u32, own: u32) -> Option<u32>
-    ensures some { IfSome result (λ slot. (is_over own entry ≡ true) × (slot ≡ slot_by entry - own)) }
-    ensures none { IfNone result (is_over own entry ≡ false) }
-{
-    if entry == 0 || slot_by(entry) < own {
-        return None;
-    }
-    Some(slot_by(entry) - own)
-}
 
 // The free slots of an overflow volume that may be there.
 fn free_of<D: Disk>(over: &Option<Over<D>>) -> u32
@@ -109,11 +98,7 @@ impl<D: Disk> Compact<D> {
         ensures ok { IsOk result }
         ensures found { IfOk result (λ found. FindsOver (entry_of self.now) self.now.own from (chunks_of self.now) found) }
     {
-        for chunk in from..seg_count(self.blocks) {
-            if let Some(slot) = over_slot(entry_in(&self.memory, chunk), self.own) {
-                return Ok(Some((chunk, slot)));
-            }
-        }
-        Ok(None)
+        let end = seg_count(self.blocks);
+        Ok(first_over(&self.memory, self.own, from, end))
     }
 }

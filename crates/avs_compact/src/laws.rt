@@ -3,13 +3,14 @@ ghost use Rattle.std.specs.Prelude.{◌≡◌, ℕ, ◌+◌, ◌*◌, ◌<◌, �
 ghost use Rattle.avs_dev.specs.Seen.{Seen, IsTold};
 ghost use Rattle.avs_over.specs.Slots.{Owners};
 ghost use Rattle.avs_over.specs.Over.{OverSet, Releases};
+ghost use Rattle.avs_entries.specs.Slots.{AreEntries};
+ghost use Rattle.avs_entries.specs.Parts.{part_end, part_blocks};
+ghost use Rattle.avs_entries.specs.Staging.{to_master};
 ghost use Rattle.avs_compact.specs.CompactSet.{CompactSet, chunks_of, disk_of, entry_of};
-ghost use Rattle.avs_compact.specs.Slots.{AreEntries};
 ghost use Rattle.avs_compact.specs.Places.{ArePlaced};
 ghost use Rattle.avs_compact.specs.Calls.{IsKnown};
 ghost use Rattle.avs_compact.specs.Keeping.{IsPlaced, KeepsBlocks};
-ghost use Rattle.avs_compact.specs.Staging.{StagesAll, TurnsSet, part_end, to_master};
-ghost use Rattle.avs_compact.specs.Ahead.{part_blocks};
+ghost use Rattle.avs_compact.specs.Staging.{StagesAll, TurnsSet};
 ghost use Rattle.avs_compact.specs.Updating.{AreBack, CopiesBelow, CopiesNext, StagesBelow, StagesNextPart, UpdatesParts, LeavesSlots, HasNone, lacking_in, split_in};
 
 /// A law: a set of which all entries were staged, and which then turned, is in step and has these entries. Those of an update

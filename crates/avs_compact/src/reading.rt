@@ -4,9 +4,9 @@ ghost use Rattle.avs_compact.specs.CompactSet.{over_of};
 ghost use Rattle.avs_compact.specs.Calls.{AreThere, ReadsShadow};
 
 use crate::compact::Compact;
-use crate::entries::{entry_in, slot_by};
 use crate::slots::read_slot;
 use avs_dev::Disk;
+use avs_entries::{entry_in, slot_by};
 use avs_over::Over;
 use avs_seg::{BLOCK, Failed, SEGMENT};
 
@@ -53,8 +53,9 @@ impl<D: Disk> Compact<D> {
         requires blocks { (D.seen master.old).size ≡ self.old.blocks }
         requires there { IsTrue (is_some self.old.shadow) }
         requires slots { AreThere self.old (over_of over.old) }
-        ensures { ReadsShadow self.old (over_of over.old) (D.seen master.old) at out.new result
+        ensures reads { ReadsShadow self.old (over_of over.old) (D.seen master.old) at out.new result
             self.new (over_of over.new) (D.seen master.new) }
+        ensures still { is_some over.new ≡ is_some over.old }
     {
         let count = (out.len() / BLOCK) as u32;
         let mut done = 0;

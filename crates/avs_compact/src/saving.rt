@@ -1,14 +1,14 @@
 // Saving chunks before the master or the shadow changes there.
 ghost use Rattle.std.specs.Prelude.{◌≡◌, ◌+◌, ◌<◌, ◌≤◌, ◌==◌, IsTrue, is_some, if◌then◌else◌};
-ghost use Rattle.avs_compact.specs.Entries.{entry_in};
+ghost use Rattle.avs_entries.specs.Entries.{entry_in};
 ghost use Rattle.avs_compact.specs.CompactSet.{chunks_of, entry_of, need_of, over_of, room_of};
 ghost use Rattle.avs_compact.specs.Calls.{AreThere};
 ghost use Rattle.avs_compact.specs.Saving.{SavesOne, SavesAll, SavesRange, lacking, need_with};
 
 use crate::compact::Compact;
-use crate::entries::{ChunkState, entry_in, state_by};
 use crate::fault::CompactFault;
 use avs_dev::Disk;
+use avs_entries::{ChunkState, entry_in, state_by};
 use avs_over::Over;
 use avs_seg::Failed;
 
@@ -27,7 +27,9 @@ impl<D: Disk> Compact<D> {
         requires blocks { (D.seen master.old).size ≡ self.old.blocks }
         requires there { IsTrue (is_some self.old.shadow) }
         requires slots { AreThere self.old (over_of over.old) }
-        ensures { SavesOne self.old (over_of over.old) (D.seen master.old) chunk result self.new (over_of over.new) (D.seen master.new) }
+        ensures saves { SavesOne self.old (over_of over.old) (D.seen master.old) chunk result
+            self.new (over_of over.new) (D.seen master.new) }
+        ensures still { is_some over.new ≡ is_some over.old }
     {
         let entry = entry_in(&self.memory, chunk);
         if entry == 0 {
@@ -65,8 +67,9 @@ impl<D: Disk> Compact<D> {
         requires blocks { (D.seen master.old).size ≡ self.old.blocks }
         requires there { IsTrue (is_some self.old.shadow) }
         requires slots { AreThere self.old (over_of over.old) }
-        ensures { SavesAll self.old (over_of over.old) (D.seen master.old) first count result
+        ensures saves { SavesAll self.old (over_of over.old) (D.seen master.old) first count result
             self.new (over_of over.new) (D.seen master.new) }
+        ensures still { is_some over.new ≡ is_some over.old }
     {
         for place in 0..count {
             self.save(master, over, first + place)?;
@@ -88,8 +91,9 @@ impl<D: Disk> Compact<D> {
         requires blocks { (D.seen master.old).size ≡ self.old.blocks }
         requires there { IsTrue (is_some self.old.shadow) }
         requires slots { AreThere self.old (over_of over.old) }
-        ensures { SavesRange self.old (over_of over.old) (D.seen master.old) first count result
+        ensures saves { SavesRange self.old (over_of over.old) (D.seen master.old) first count result
             self.new (over_of over.new) (D.seen master.new) }
+        ensures still { is_some over.new ≡ is_some over.old }
     {
         let need = self.need() + self.lacking(first, count);
         let slots = self.room(over);

@@ -1,18 +1,16 @@
 // A chunk that is settled: its contents are copied where they stand on one side alone, and then its entry changes.
-ghost use Rattle.std.specs.Prelude.{◌≡◌, ◌≢◌, ◌⊎◌, ◌+◌, ◌<◌, ◌≤◌, IsTrue, is_some};
-ghost use Rattle.avs_over.specs.Over.{slots, used};
-ghost use Rattle.avs_compact.specs.Entries.{code_of, on_both, on_shadow, split, state_by};
+ghost use Rattle.std.specs.Prelude.{◌≡◌, ◌+◌, ◌<◌, IsTrue, is_some};
+ghost use Rattle.avs_over.specs.Over.{slots};
+ghost use Rattle.avs_entries.specs.Entries.{code_of, split};
 ghost use Rattle.avs_compact.specs.CompactSet.{chunks_of, entry_of, need_of, over_of, room_of};
 ghost use Rattle.avs_compact.specs.Calls.{AreThere};
 ghost use Rattle.avs_compact.specs.Keeping.{MaySettle, Settles};
 
 use crate::compact::Compact;
 use crate::copies::{copy_back, copy_in};
-use crate::entries::{ChunkState, entry_for, entry_in, slot_by};
-use crate::marks::mark_slot;
-use crate::put::put_entry;
 use crate::taking::take_slot;
 use avs_dev::Disk;
+use avs_entries::{ChunkState, clear_bit, entry_for, entry_in, mark_slot, put_entry, slot_by};
 use avs_over::Over;
 use avs_seg::{Failed, seg_span};
 
@@ -29,8 +27,9 @@ impl<D: Disk> Compact<D> {
         requires room { need_of self.old < room_of self.old (over_of over.old) }
         requires blocks { (D.seen master.old).size ≡ self.old.blocks }
         requires there { IsTrue (is_some self.old.shadow) }
-        ensures { Settles self.old (over_of over.old) (D.seen master.old) chunk split result
+        ensures settles { Settles self.old (over_of over.old) (D.seen master.old) chunk split result
             self.new (over_of over.new) (D.seen master.new) }
+        ensures still { is_some over.new ≡ is_some over.old }
     {
         let Some(slot) = take_slot(&self.table, self.low, self.set, over) else {
             return Err(Failed);
@@ -59,8 +58,9 @@ impl<D: Disk> Compact<D> {
         requires blocks { (D.seen master.old).size ≡ self.old.blocks }
         requires there { IsTrue (is_some self.old.shadow) }
         requires slots { AreThere self.old (over_of over.old) }
-        ensures { Settles self.old (over_of over.old) (D.seen master.old) chunk (code_of target) result
+        ensures settles { Settles self.old (over_of over.old) (D.seen master.old) chunk (code_of target) result
             self.new (over_of over.new) (D.seen master.new) }
+        ensures still { is_some over.new ≡ is_some over.old }
     {
         let old = entry_in(&self.memory, chunk);
         let span = seg_span(chunk, self.blocks);
@@ -69,6 +69,7 @@ impl<D: Disk> Compact<D> {
         let entry = entry_for(target, slot_by(old));
         put_entry(&mut self.flip, &mut self.memory, chunk, entry)?;
         self.tally = self.tally.changed(self.own, old, entry);
+        clear_bit(&mut self.map, chunk);
         Ok(())
     }
 }

@@ -3,7 +3,7 @@ ghost use Rattle.std.specs.Prelude.{◌≡◌, ℕ, ◌+◌, ◌<◌, ◌≤◌,
 ghost use Rattle.avs_seg.specs.Segment.{seg_len};
 ghost use Rattle.avs_model.specs.ShadowSets.{ChunkList, ShadowState, Online};
 ghost use Rattle.avs_model.specs.GroupWork.{GroupSpot, mark_work, copy_work, on_shadow, blocks_in, blocks_on_spot};
-ghost use Rattle.avs_compact.specs.Entries.{state_by};
+ghost use Rattle.avs_entries.specs.Entries.{state_by};
 ghost use Rattle.avs_compact.specs.CompactSet.{CompactSet, chunks_of, entry_of};
 ghost use Rattle.avs_compact.specs.Disks.{CompactDisk, Shadow, Over};
 ghost use Rattle.avs_compact.specs.Work.{slot_work, slot_most, settle_most, save_work, save_most, ahead_most};

@@ -1,68 +1,23 @@
 // Chunks that another set's update takes from the master: they are copied ahead, and then staged as split.
-ghost use Rattle.std.specs.Prelude.{◌≡◌, ℕ, ◌+◌, ◌-◌, ◌*◌, ◌<◌, ◌≤◌, ◌^◌, ◌==◌, nat_lt, Bool, true, ◌&&◌, if◌then◌else◌, IsTrue, is_some, length};
-ghost use Rattle.avs_bits.specs.Bit.{bit_of};
-ghost use Rattle.avs_compact.specs.Entries.{split, slot_by, entry_for, entry_in, area_len};
+ghost use Rattle.std.specs.Prelude.{◌≡◌, ℕ, ◌+◌, ◌-◌, ◌*◌, ◌<◌, ◌≤◌, ◌==◌, nat_lt, Bool, true, ◌&&◌, if◌then◌else◌, IsTrue, is_some};
+ghost use Rattle.avs_entries.specs.Entries.{split, entry_for, entry_in, area_len};
+ghost use Rattle.avs_entries.specs.Parts.{part_blocks};
 ghost use Rattle.avs_compact.specs.CompactSet.{chunks_of, entry_of, need_of, over_of, room_of};
-ghost use Rattle.avs_compact.specs.Staging.{AreSetTo, StagesBlocks};
-ghost use Rattle.avs_compact.specs.Ahead.{CopiesAhead, CopiesPart, CopiesTold, HasRoomFor, StagesPart, part_blocks, split_of, split_to};
+ghost use Rattle.avs_compact.specs.Staging.{StagesBlocks};
+ghost use Rattle.avs_compact.specs.Ahead.{CopiesAhead, CopiesPart, CopiesTold, HasRoomFor, StagesPart, split_of};
 
 use crate::compact::Compact;
 use crate::copies::copy_in;
-use crate::entries::{ChunkState, ENTRIES, entry_for, entry_in, set_entry, slot_by};
-use crate::formats::area_len;
-use crate::parts::{PART, has_bit};
-use crate::staging::stage_next;
 use crate::taking::take_slot;
 use avs_dev::Disk;
+use avs_entries::{
+    ChunkState, PART, area_len, entry_for, entry_in, fill_split, has_bit, set_entry, stage_next,
+};
 use avs_over::Over;
 use avs_seg::{Failed, seg_count, seg_span};
 
 // How many blocks of entries a part has.
 const BLOCKS: u32 = 16;
-
-// The entry of a chunk of a part, where those that are told are split.
-fn split_entry(entry: u32, kept: u32, told: bool) -> u32
-    ensures { result ≡ (if told then (if entry == 0 then kept else entry_for split (slot_by entry)) else entry) }
-{
-    if !told {
-        return entry;
-    }
-    if entry == 0 {
-        return kept;
-    }
-    entry_for(ChunkState::Split, slot_by(entry))
-}
-
-// Whether a chunk is there and told, of a part that begins with one.
-fn is_told(split: &[u8; 256], chunks: u32, first: u32, chunk: u32) -> bool
-    requires low { first ≤ chunk }
-    requires high { chunk < first + 2048 }
-    ensures { result ≡ (nat_lt chunk chunks && bit_of split.now (chunk - first)) }
-{
-    if chunk >= chunks {
-        return false;
-    }
-    has_bit(split, chunk - first)
-}
-
-// Sets the entries of a block of a part as those in memory, with the chunks split that are told.
-fn fill_split(next: &mut [u8], memory: &[u8], part: u32, at: u32, split: &[u8; 256], chunks: u32)
-    requires inside { 512 * (at + 1) ≤ length memory.now }
-    requires long { length next.old ≡ length memory.now }
-    requires low { 16 * part ≤ at }
-    requires high { at < 16 * (part + 1) }
-    requires small { at < 2 ^ 19 }
-    ensures len { length next.new ≡ length next.old }
-    ensures set { AreSetTo (entry_in next.old) (entry_in next.new)
-        (split_to chunks split.now part (entry_in memory.now) (entry_in next.old)) (128 * at) (128 * (at + 1)) }
-{
-    let first = PART * part;
-    for chunk in ENTRIES * at..ENTRIES * (at + 1) {
-        let told = is_told(split, chunks, first, chunk);
-        let entry = split_entry(entry_in(memory, chunk), entry_in(next, chunk), told);
-        set_entry(next, chunk, entry);
-    }
-}
 
 // 1 where a slot is one of the set's own.
 fn one_own(slot: u32, own: u32) -> u32
@@ -85,7 +40,9 @@ impl<D: Disk> Compact<D> {
         requires room { need_of self.old < room_of self.old (over_of over.old) }
         requires blocks { (D.seen master.old).size ≡ self.old.blocks }
         requires there { IsTrue (is_some self.old.shadow) }
-        ensures { CopiesAhead self.old (over_of over.old) (D.seen master.old) chunk result self.new (over_of over.new) (D.seen master.new) }
+        ensures copies { CopiesAhead self.old (over_of over.old) (D.seen master.old) chunk result
+            self.new (over_of over.new) (D.seen master.new) }
+        ensures still { is_some over.new ≡ is_some over.old }
     {
         let Some(slot) = take_slot(&self.table, self.low, self.set, over) else {
             return Err(Failed);
@@ -111,9 +68,10 @@ impl<D: Disk> Compact<D> {
         requires room { told ≡ true → entry_of self.old chunk ≡ 0 → need_of self.old < room_of self.old (over_of over.old) }
         requires blocks { (D.seen master.old).size ≡ self.old.blocks }
         requires there { IsTrue (is_some self.old.shadow) }
-        ensures { (list : ℕ → Bool) → list chunk ≡ (told && (entry_of self.old chunk == 0))
+        ensures copies { (list : ℕ → Bool) → list chunk ≡ (told && (entry_of self.old chunk == 0))
             → CopiesTold self.old (over_of over.old) (D.seen master.old) list chunk (chunk + 1) result
             self.new (over_of over.new) (D.seen master.new) }
+        ensures still { is_some over.new ≡ is_some over.old }
     {
         if !told {
             return Ok(());
@@ -136,8 +94,9 @@ impl<D: Disk> Compact<D> {
         requires room { HasRoomFor self.old (over_of over.old) part split.now }
         requires blocks { (D.seen master.old).size ≡ self.old.blocks }
         requires there { IsTrue (is_some self.old.shadow) }
-        ensures { CopiesPart self.old (over_of over.old) (D.seen master.old) part split.now result
+        ensures copies { CopiesPart self.old (over_of over.old) (D.seen master.old) part split.now result
             self.new (over_of over.new) (D.seen master.new) }
+        ensures still { is_some over.new ≡ is_some over.old }
     {
         let first = PART * part;
         let end = seg_count(self.blocks).min(first + PART);
@@ -189,8 +148,9 @@ impl<D: Disk> Compact<D> {
         requires room { HasRoomFor self.old (over_of over.old) part split.now }
         requires blocks { (D.seen master.old).size ≡ self.old.blocks }
         requires there { IsTrue (is_some self.old.shadow) }
-        ensures { StagesPart self.old (over_of over.old) (D.seen master.old) part split.now result
+        ensures stages { StagesPart self.old (over_of over.old) (D.seen master.old) part split.now result
             self.new (over_of over.new) (D.seen master.new) }
+        ensures still { is_some over.new ≡ is_some over.old }
     {
         self.copy_part(master, over, part, split)?;
         self.stage_split(part, split)

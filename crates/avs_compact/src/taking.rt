@@ -1,5 +1,5 @@
 // The next slot that a set takes.
-ghost use Rattle.std.specs.Prelude.{◌≡◌, ◌≢◌, ℕ, ◌+◌, ◌<◌, ◌≤◌, ◌^◌, IsTrue, not, IfSome, None, is_some, length};
+ghost use Rattle.std.specs.Prelude.{◌≡◌, ◌≢◌, ◌+◌, ◌<◌, ◌^◌, IsTrue, not, IfSome, None, is_some, length};
 ghost use Rattle.avs_over.specs.Slots.{owner_at, FindsFree};
 ghost use Rattle.avs_compact.specs.CompactSet.{over_of};
 ghost use Rattle.avs_over.specs.Over.{Takes};

@@ -1,16 +1,16 @@
 // Writes to the shadow.
-ghost use Rattle.std.specs.Prelude.{◌≡◌, ℕ, ◌+◌, ◌*◌, ◌/◌, ◌%◌, ◌<◌, ◌≤◌, IsTrue, is_some, length};
+ghost use Rattle.std.specs.Prelude.{◌≡◌, ◌+◌, ◌*◌, ◌/◌, ◌%◌, ◌<◌, ◌≤◌, IsTrue, is_some, length};
 ghost use Rattle.avs_seg.specs.Image.{blocks_of};
-ghost use Rattle.avs_compact.specs.Entries.{split, state_by};
-ghost use Rattle.avs_compact.specs.CompactSet.{entry_of, over_of};
+ghost use Rattle.avs_entries.specs.Entries.{split};
+ghost use Rattle.avs_compact.specs.CompactSet.{over_of};
 ghost use Rattle.avs_compact.specs.Calls.{AreThere};
 ghost use Rattle.avs_compact.specs.Writing.{PutsShadow, WritesShadow, AreSplit};
 
 use crate::compact::Compact;
-use crate::entries::{entry_in, slot_by};
 use crate::fault::CompactFault;
 use crate::slots::write_slot;
 use avs_dev::Disk;
+use avs_entries::{entry_in, slot_by};
 use avs_over::Over;
 use avs_seg::{BLOCK, Failed, SEGMENT, seg_count};
 
@@ -24,7 +24,8 @@ impl<D: Disk> Compact<D> {
         requires split { AreSplit self.old at (length bytes.now / 512) }
         requires there { IsTrue (is_some self.old.shadow) }
         requires slots { AreThere self.old (over_of over.old) }
-        ensures { PutsShadow self.old (over_of over.old) at (blocks_of bytes.now) result self.new (over_of over.new) }
+        ensures puts { PutsShadow self.old (over_of over.old) at (blocks_of bytes.now) result self.new (over_of over.new) }
+        ensures still { is_some over.new ≡ is_some over.old }
     {
         let slot = slot_by(entry_in(&self.memory, at / SEGMENT));
         write_slot(&mut self.shadow, over, self.own, slot, at % SEGMENT, bytes)
@@ -44,7 +45,8 @@ impl<D: Disk> Compact<D> {
         requires split { AreSplit self.old at (length bytes.now / 512) }
         requires there { IsTrue (is_some self.old.shadow) }
         requires slots { AreThere self.old (over_of over.old) }
-        ensures { PutsShadow self.old (over_of over.old) at (blocks_of bytes.now) result self.new (over_of over.new) }
+        ensures puts { PutsShadow self.old (over_of over.old) at (blocks_of bytes.now) result self.new (over_of over.new) }
+        ensures still { is_some over.new ≡ is_some over.old }
     {
         let _ = &self.blocks;
         let count = (bytes.len() / BLOCK) as u32;
@@ -74,8 +76,9 @@ impl<D: Disk> Compact<D> {
         requires blocks { (D.seen master.old).size ≡ self.old.blocks }
         requires there { IsTrue (is_some self.old.shadow) }
         requires slots { AreThere self.old (over_of over.old) }
-        ensures { WritesShadow self.old (over_of over.old) (D.seen master.old) at bytes.now result
+        ensures writes { WritesShadow self.old (over_of over.old) (D.seen master.old) at bytes.now result
             self.new (over_of over.new) (D.seen master.new) }
+        ensures still { is_some over.new ≡ is_some over.old }
     {
         let first = at / SEGMENT;
         let count = seg_count(at + (bytes.len() / BLOCK) as u32) - first;

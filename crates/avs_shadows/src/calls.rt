@@ -1,6 +1,6 @@
 // Calls on a set of any kind. Each answers `Barred` where it may not be called.
 ghost use Rattle.std.specs.Prelude.{◌≡◌, ℕ, ◌<◌, ◌≤◌, IsTrue};
-ghost use Rattle.avs_compact.specs.Entries.{state_by, split};
+ghost use Rattle.avs_entries.specs.Entries.{state_by, split};
 ghost use Rattle.avs_compact.specs.CompactSet.{chunks_of, entry_of};
 
 use crate::plain::{Image, Stands};

@@ -1,5 +1,5 @@
 use Rattle.std.proofs.Common.{◌≡◌, ◌≤◌, ◌<◌, ℕ}
-use Rattle.avs_compact.specs.Entries.{state_by, split}
+use Rattle.avs_entries.specs.Entries.{state_by, split}
 use Rattle.avs_compact.specs.CompactSet.{entry_of}
 use Rattle.avs_shadows.proofs.calls.are_split.Given as goal
 

@@ -1,6 +1,6 @@
 use Rattle.avs_seg.specs.Segment.{seg_count}
-use Rattle.avs_compact.specs.Entries.{entry_in}
-use Rattle.avs_compact.proofs.Tallied.{back_most}
+use Rattle.avs_entries.specs.Entries.{entry_in}
+use Rattle.avs_entries.proofs.Tallied.{back_most}
 use Rattle.avs_compact.proofs.compact.Compact.back.Goals as goal
 
 pub returns-clause-counted : goal.returns-clause-counted

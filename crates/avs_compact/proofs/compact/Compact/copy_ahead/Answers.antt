@@ -5,19 +5,20 @@ use Rattle.std.proofs.lemmas.List.{with_items_is}
 use Rattle.avs_seg.specs.Segment.{seg_count}
 use Rattle.avs_seg.specs.declared.fault.Failed.{Failed}
 use Rattle.avs_over.specs.Slots.{Owners}
-use Rattle.avs_compact.specs.Entries.{entry_in, entry_for}
+use Rattle.avs_entries.specs.Entries.{entry_in, entry_for}
+use Rattle.avs_entries.specs.Slots.{IsClean}
+use Rattle.avs_entries.specs.Putting.{PutsEntry}
 use Rattle.avs_compact.specs.CompactSet.{CompactSet, over_of}
 use Rattle.avs_compact.specs.Disks.{Shadow}
-use Rattle.avs_compact.specs.Slots.{IsClean}
-use Rattle.avs_compact.specs.Steps.{TakesSlot, PutsEntry}
+use Rattle.avs_compact.specs.Steps.{TakesSlot}
 use Rattle.avs_compact.specs.Ahead.{CopiesTold}
-use Rattle.avs_compact.proofs.Again.{kept_again, kept_next, clean_put, passed_ahead}
+use Rattle.avs_compact.proofs.Again.{kept_again, held_again, held_next, clean_put, passed_ahead}
 use Rattle.avs_compact.proofs.SettlingNew.{slot_free}
 use Rattle.avs_compact.proofs.Ahead.{told_fails, told_copies}
 use Rattle.avs_compact.proofs.compact.Compact.copy_ahead.Goals as goal
 
-pub returns-in_default : goal.returns-in_default
-returns-in_default g c =
+pub returns-in_default-clause-copies : goal.returns-in_default-clause-copies
+returns-in_default-clause-copies g c =
     let i = c.self.inside in
     let seen = g.D.Disk.seen in
     let s : CompactSet = record { set = i.set; own = i.own; shadow = option_map seen i.shadow; areas = i.flip; memory = i.memory.items; next = i.next.items; blocks = i.blocks; low = i.low; ahead = i.ahead } in
@@ -25,8 +26,8 @@ returns-in_default g c =
     let t = subst (λ (l : Owners). TakesSlot l i.low i.set (over_of c.args.over.now) None (over_of c.take_slot.new.over)) c.deref.ensures.value c.in_default.ensures.takes in
     absurd (slot_free s (over_of c.args.over.now) (over_of c.take_slot.new.over) i.table.items i.counts c.self.invariant.1 c.self.invariant.2.inside c.self.invariant.2.kept t room)
 
-pub returns-in_err-copy_in : goal.returns-in_err-copy_in
-returns-in_err-copy_in g c =
+pub returns-in_err-copy_in-clause-copies : goal.returns-in_err-copy_in-clause-copies
+returns-in_err-copy_in-clause-copies g c =
     let i = c.self.inside in
     let seen = g.D.Disk.seen in
     let s : CompactSet = record { set = i.set; own = i.own; shadow = option_map seen i.shadow; areas = i.flip; memory = i.memory.items; next = i.next.items; blocks = i.blocks; low = i.low; ahead = i.ahead } in
@@ -45,11 +46,14 @@ invariant_of-self g c =
     let k = c.self.invariant.0 in
     let long : (with_items i.buffer c.copy_in.new.buffer).items ≡ c.copy_in.new.buffer = with_items_is i.buffer c.copy_in.new.buffer (search rules) in
     let size = ((c.copy_in.ensures.copies.goes (seen c.args.master.now)).lasts Shadow).size in (
-      kept_again (option_map seen i.shadow) (option_map seen c.copy_in.new.shadow) i.own i.flip i.flip i.memory.items i.memory.items i.next.items i.buffer.items (with_items i.buffer c.copy_in.new.buffer).items i.blocks k (search rules) size refl refl refl k.clean
-          (ap (λ (l : List ℕ). length l) long ∙ (search rules)),
+      kept_again (option_map seen i.shadow) (option_map seen c.copy_in.new.shadow) i.own i.flip i.flip i.blocks k (search rules) size refl refl,
       c.self.invariant.1,
       c.self.invariant.2,
       c.self.invariant.3,
+      held_again i.flip i.flip i.memory.items i.memory.items i.next.items i.blocks c.self.invariant.4 refl refl
+          c.self.invariant.4.clean,
+      ap (λ (l : List ℕ). length l) long ∙ (search rules),
+      c.self.invariant.6,
     )
 
 pub invariant_of-self-2 : goal.invariant_of-self-2
@@ -64,18 +68,19 @@ invariant_of-self-2 g c =
     let size = ((c.copy_in.ensures.copies.goes (seen c.args.master.now)).lasts Shadow).size in
     let others = subst (λ (l : List ℕ). (d : ℕ) → d ≢ c.args.chunk → entry_in c.set_entry.new.bytes d ≡ entry_in l d) c.deref_mut-2.ensures.value c.set_entry.ensures.others in
     let low : c.min-self-inside.result ≡ min i.own (c.in-Some.slot + 1) = c.min-self-inside.ensures in (
-      kept_next (option_map seen c.copy_in.new.shadow) i.own i.flip i.memory.items i.next.items (with_items i.next c.set_entry.new.bytes).items (with_items i.buffer c.copy_in.new.buffer).items i.blocks
-          (kept_again (option_map seen i.shadow) (option_map seen c.copy_in.new.shadow) i.own i.flip i.flip i.memory.items i.memory.items i.next.items i.buffer.items (with_items i.buffer c.copy_in.new.buffer).items i.blocks k (search rules) size refl refl refl k.clean
-          (ap (λ (l : List ℕ). length l) long ∙ (search rules)))
-          (ap (λ (l : List ℕ). length l) items ∙ c.set_entry.ensures.len ∙ ap (λ (l : List ℕ). length l) c.deref_mut-2.ensures.value)
-          (subst (λ (l : List ℕ). IsClean l (seg_count i.blocks)) (sym items) (clean_put i.next.items c.set_entry.new.bytes c.args.chunk (seg_count i.blocks) others there k.staged_clean)),
+      kept_again (option_map seen i.shadow) (option_map seen c.copy_in.new.shadow) i.own i.flip i.flip i.blocks k (search rules) size refl refl,
       c.self.invariant.1,
       passed_ahead (entry_in i.memory.items) i.own (seg_count i.blocks) i.table.items i.counts i.low i.ahead i.due c.in-Some.slot i.set (over_of c.args.over.now) (over_of c.take_slot.new.over) c.self.invariant.1 c.self.invariant.2 t _ _ low c.one_own.ensures,
       c.self.invariant.3,
+      held_next i.flip i.memory.items i.next.items (with_items i.next c.set_entry.new.bytes).items i.blocks c.self.invariant.4
+          (ap (λ (l : List ℕ). length l) items ∙ c.set_entry.ensures.len ∙ ap (λ (l : List ℕ). length l) c.deref_mut-2.ensures.value)
+          (subst (λ (l : List ℕ). IsClean l (seg_count i.blocks)) (sym items) (clean_put i.next.items c.set_entry.new.bytes c.args.chunk (seg_count i.blocks) others there c.self.invariant.4.staged_clean)),
+      ap (λ (l : List ℕ). length l) long ∙ (search rules),
+      c.self.invariant.6,
     )
 
-pub returns : goal.returns
-returns g c =
+pub returns-clause-copies : goal.returns-clause-copies
+returns-clause-copies g c =
     let i = c.self.inside in
     let seen = g.D.Disk.seen in
     let s : CompactSet = record { set = i.set; own = i.own; shadow = option_map seen i.shadow; areas = i.flip; memory = i.memory.items; next = i.next.items; blocks = i.blocks; low = i.low; ahead = i.ahead } in

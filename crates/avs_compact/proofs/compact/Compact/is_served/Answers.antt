@@ -1,7 +1,7 @@
 use Rattle.std.proofs.Common.{arith}
 use Rattle.std.specs.Option.{option_map}
 use Rattle.avs_compact.specs.CompactSet.{CompactSet, over_of}
-use Rattle.avs_compact.proofs.Tallied.{are_there, lacks_slot}
+use Rattle.avs_compact.proofs.Served.{are_there, lacks_slot}
 use Rattle.avs_compact.proofs.compact.Compact.is_served.Goals as goal
 
 pub returns-clause-served : goal.returns-clause-served

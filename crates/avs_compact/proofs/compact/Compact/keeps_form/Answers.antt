@@ -1,6 +1,6 @@
 use Rattle.avs_seg.specs.Segment.{seg_count}
-use Rattle.avs_compact.specs.Entries.{entry_in}
-use Rattle.avs_compact.proofs.Marking.{marks_apart}
+use Rattle.avs_entries.specs.Entries.{entry_in}
+use Rattle.avs_entries.proofs.Marking.{marks_apart}
 use Rattle.avs_compact.proofs.compact.Compact.keeps_form.Goals as goal
 
 pub returns : goal.returns

@@ -1,7 +1,7 @@
 use Rattle.std.proofs.Common.{◌≡◌, ◌+◌, ℕ, List, cond, eqb, ◌∙◌, ap, arith}
-use Rattle.avs_compact.specs.Entries.{entry_in}
+use Rattle.avs_entries.specs.Entries.{entry_in}
+use Rattle.avs_entries.proofs.Counted.{one_most}
 use Rattle.avs_compact.specs.CompactSet.{CompactSet, entry_of}
-use Rattle.avs_compact.proofs.Counts.{one_most}
 use Rattle.avs_compact.proofs.Chained.{lacking_more}
 use Rattle.avs_compact.proofs.compact.Compact.lacking.Goals as goal
 

@@ -1,10 +1,10 @@
 use Rattle.std.proofs.Common.{◌≡◌, ◌+◌, ◌-◌, ◌*◌, ℕ, Bool, List, cond, eqb, ◌∙◌, ap, arith}
 use Rattle.std.specs.Prelude.{◌&&◌}
 use Rattle.avs_bits.specs.Bit.{bit_of}
-use Rattle.avs_compact.specs.Entries.{entry_in}
+use Rattle.avs_entries.specs.Entries.{entry_in}
+use Rattle.avs_entries.specs.Parts.{is_ahead}
+use Rattle.avs_entries.proofs.Counted.{one_most, count_on}
 use Rattle.avs_compact.specs.CompactSet.{CompactSet, entry_of}
-use Rattle.avs_compact.specs.Staging.{is_ahead}
-use Rattle.avs_compact.proofs.Counts.{one_most, count_on}
 use Rattle.avs_compact.proofs.compact.Compact.lacks.Goals as goal
 
 pub overflow_mul-first : goal.overflow_mul-first

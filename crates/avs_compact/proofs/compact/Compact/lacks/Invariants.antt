@@ -1,7 +1,7 @@
 use Rattle.std.proofs.Common.{◌≡◌, ◌≤◌, ◌*◌, length, filter}
 use Rattle.std.specs.List.{range_with_len}
+use Rattle.avs_entries.specs.Parts.{is_ahead}
 use Rattle.avs_compact.specs.CompactSet.{entry_of}
-use Rattle.avs_compact.specs.Staging.{is_ahead}
 use Rattle.avs_compact.proofs.compact.Compact.lacks.Given as goal
 
 abbrev pub invariant-loop-place : goal.invariant-loop-place

@@ -1,8 +1,9 @@
 use Rattle.std.proofs.Common.{rules}
 use Rattle.std.specs.Option.{option_map}
-use Rattle.avs_compact.specs.Entries.{entry_in}
-use Rattle.avs_compact.proofs.Formatting.{Loads-found, IsClean-zeros}
-use Rattle.avs_compact.proofs.Marking.{marks_apart}
+use Rattle.avs_entries.specs.Entries.{entry_in}
+use Rattle.avs_entries.proofs.Formatting.{IsClean-zeros}
+use Rattle.avs_entries.proofs.Marking.{marks_apart}
+use Rattle.avs_compact.proofs.Making.{Loads-found}
 use Rattle.avs_compact.proofs.compact.Compact.load.Goals as goal
 
 pub returns-in-Ok-clause-loaded : goal.returns-in-Ok-clause-loaded
@@ -16,11 +17,14 @@ over-requires-clause-kept g c = record {
   first = search rules;
   len = search rules;
   fits = search rules;
+  small = search rules;
+  few = search rules;
+}
+
+pub over-requires-clause-held : goal.over-requires-clause-held
+over-requires-clause-held g c = record {
   entries = search rules;
   clean = c.in-Ok.ensures.clean;
   staged = search rules;
   staged_clean = IsClean-zeros c.in-Ok.found.room.next.items _ _ c.in-Ok.ensures.next;
-  chunk = search rules;
-  small = search rules;
-  few = search rules;
 }

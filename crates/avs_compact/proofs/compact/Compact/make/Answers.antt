@@ -1,7 +1,8 @@
 use Rattle.std.proofs.Common.{rules, refl}
-use Rattle.avs_compact.specs.Entries.{entry_in}
-use Rattle.avs_compact.proofs.Formatting.{Makes-format, IsClean-zeros, entries_none}
-use Rattle.avs_compact.proofs.Marking.{marks_zeros}
+use Rattle.avs_entries.specs.Entries.{entry_in}
+use Rattle.avs_entries.proofs.Formatting.{IsClean-zeros, entries_none}
+use Rattle.avs_entries.proofs.Marking.{marks_zeros}
+use Rattle.avs_compact.proofs.Making.{Makes-format}
 use Rattle.avs_compact.proofs.compact.Compact.make.Goals as goal
 
 pub over-requires-clause-kept : goal.over-requires-clause-kept
@@ -10,13 +11,16 @@ over-requires-clause-kept g c = record {
   first = search rules;
   len = search rules;
   fits = search rules;
+  small = search rules;
+  few = search rules;
+}
+
+pub over-requires-clause-held : goal.over-requires-clause-held
+over-requires-clause-held g c = record {
   entries = search rules;
   clean = IsClean-zeros c.in-Ok.room.memory.items _ _ c.in-Ok.ensures.memory;
   staged = search rules;
   staged_clean = IsClean-zeros c.in-Ok.room.next.items _ _ c.in-Ok.ensures.next;
-  chunk = search rules;
-  small = search rules;
-  few = search rules;
 }
 
 pub over-requires-clause-marked : goal.over-requires-clause-marked

@@ -1,10 +1,10 @@
 use Rattle.std.proofs.Common.{◌≡◌, ◌+◌, ◌≤◌, is_some, arith}
 use Rattle.std.proofs.lemmas.List.Sums.{count_by-le-length}
 use Rattle.avs_seg.specs.Segment.{seg_count}
-use Rattle.avs_compact.specs.Entries.{entry_in}
-use Rattle.avs_compact.specs.CompactSet.{is_touched, is_own, is_over, count_of}
-use Rattle.avs_compact.proofs.Counts.{count_most}
-use Rattle.avs_compact.proofs.Marking.{need_is}
+use Rattle.avs_entries.specs.Entries.{entry_in}
+use Rattle.avs_entries.specs.Counting.{is_touched, is_own, is_over, count_of}
+use Rattle.avs_entries.proofs.Counted.{count_most}
+use Rattle.avs_entries.proofs.Marking.{need_is}
 use Rattle.avs_compact.proofs.OwnFirst.{over_beyond}
 use Rattle.avs_compact.proofs.compact.Compact.need.Goals as goal
 

@@ -1,6 +1,6 @@
 use Rattle.avs_seg.specs.Segment.{seg_count}
-use Rattle.avs_compact.specs.Entries.{entry_in}
-use Rattle.avs_compact.proofs.Tallied.{none_back}
+use Rattle.avs_entries.specs.Entries.{entry_in}
+use Rattle.avs_entries.proofs.Tallied.{none_back}
 use Rattle.avs_compact.proofs.compact.Compact.next_due.Goals as goal
 
 pub returns-then-self-eq0-clause-finds : goal.returns-then-self-eq0-clause-finds

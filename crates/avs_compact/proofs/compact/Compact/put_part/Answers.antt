@@ -1,7 +1,7 @@
 use Rattle.std.proofs.Common.{rules, ◌≡◌, ◌≤◌, ◌<◌, ◌+◌, ◌-◌, ◌*◌, ◌/◌, ◌%◌, ℕ, List, length, ap, sym, subst, ◌∙◌, arith}
 use Rattle.std.specs.Option.{option_map}
 use Rattle.avs_over.specs.Over.{slot_from}
-use Rattle.avs_compact.specs.Entries.{entry_in, slot_by}
+use Rattle.avs_entries.specs.Entries.{entry_in, slot_by}
 use Rattle.avs_compact.specs.CompactSet.{CompactSet, over_of, disk_of, entry_of}
 use Rattle.avs_compact.specs.Calls.{IsInSlot}
 use Rattle.avs_compact.specs.Steps.{WritesOne}
@@ -26,8 +26,8 @@ write_slot-requires-clause-inside g c =
     (slot_there s (over_of c.args.over.now) (c.args.at / 64) (c.args.at % 64) (length c.args.bytes.now) c.self.invariant.0.room there placed (omega (arith, blocks, c.requires.inside, c.requires.some, c.requires.whole))
     (state_some_two (entry_of s (c.args.at / 64)) (first_split s c.args.at (length c.args.bytes.now / 512) len split)) c.requires.some c.requires.whole c.requires.one)
 
-pub returns : goal.returns
-returns g c =
+pub returns-clause-puts : goal.returns-clause-puts
+returns-clause-puts g c =
     let i = c.self.inside in
     let seen = g.D.Disk.seen in
     let s : CompactSet = record { set = i.set; own = i.own; shadow = option_map seen i.shadow; areas = i.flip; memory = i.memory.items; next = i.next.items; blocks = i.blocks; low = i.low; ahead = i.ahead } in

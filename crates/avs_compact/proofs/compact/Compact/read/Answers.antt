@@ -25,6 +25,7 @@ loop-done-preserved g c =
       within = omega (arith, c.min-len.ensures, c.loop-done-test.true);
       set = part.same.0 ∙ set;
       over = part.same.1.0 ∙ over;
+      still = c.read_part.ensures.still ∙ c.loop-done.invariant.still;
       master = part.same.1.1 ∙ master;
       shows = λ known told.
           let image = shadow_image c.args.self.now o before.image in
@@ -39,8 +40,8 @@ loop-done-preserved g c =
           ∙ ap (λ (d : Seen). range (shadow_image c.args.self.now o d.image) (c.args.at + c.loop-done.done) c.min-len.result) master);
     }
 
-pub returns : goal.returns
-returns g c =
+pub returns-clause-reads : goal.returns-clause-reads
+returns-clause-reads g c =
     let before = g.D.Disk.seen c.args.master.now in
     let o = over_of c.args.over.now in
     subst (λ (s : CompactSet). ReadsShadow {T = Unit {0}} {E = Failed} c.args.self.now o before c.args.at c.loop-done.out (Ok tt) s (over_of c.loop-done.over) (g.D.Disk.seen c.loop-done.master)) (sym c.loop-done.invariant.set)

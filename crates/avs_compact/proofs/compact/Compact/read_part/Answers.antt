@@ -1,6 +1,6 @@
 use Rattle.std.proofs.Common.{rules, ◌≡◌, ◌/◌, ◌%◌, ℕ, List, length, refl, ap, sym, subst, ◌∙◌, arith}
 use Rattle.std.specs.Option.{option_map}
-use Rattle.avs_compact.specs.Entries.{entry_in, slot_by}
+use Rattle.avs_entries.specs.Entries.{entry_in, slot_by}
 use Rattle.avs_compact.specs.CompactSet.{CompactSet, over_of, disk_of, entry_of}
 use Rattle.avs_compact.specs.Calls.{IsInSlot, ReadsOne}
 use Rattle.avs_compact.proofs.Readings.{from_master, from_slot, slot_there}

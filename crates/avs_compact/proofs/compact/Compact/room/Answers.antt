@@ -1,10 +1,11 @@
 use Rattle.std.proofs.Common.{is_some, arith}
 use Rattle.std.proofs.lemmas.List.Sums.{count_by-le-length}
 use Rattle.avs_seg.specs.Segment.{seg_count}
-use Rattle.avs_compact.specs.Entries.{entry_in}
-use Rattle.avs_compact.specs.CompactSet.{over_of, is_over}
-use Rattle.avs_compact.proofs.Counts.{count_most}
-use Rattle.avs_compact.proofs.Marking.{given_most}
+use Rattle.avs_entries.specs.Entries.{entry_in}
+use Rattle.avs_entries.specs.Counting.{is_over}
+use Rattle.avs_entries.proofs.Counted.{count_most}
+use Rattle.avs_entries.proofs.Marking.{given_most}
+use Rattle.avs_compact.specs.CompactSet.{over_of}
 use Rattle.avs_compact.proofs.compact.Compact.room.Goals as goal
 
 pub overflow_add-result : goal.overflow_add-result

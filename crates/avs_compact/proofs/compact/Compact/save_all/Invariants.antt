@@ -10,5 +10,6 @@ invariant-loop-place g l = record {
   size : (g.D.Disk.seen l.master).size ≡ l.self.blocks;
   there : IsTrue (is_some l.self.shadow);
   slots : AreThere l.self (over_of l.over);
+  still : is_some l.over ≡ is_some l.fn.over;
   saves : SavesAll {T = Unit {0}} {E = Failed} l.fn.self (over_of l.fn.over) (g.D.Disk.seen l.fn.master) l.first l.place (Ok tt) l.self (over_of l.over) (g.D.Disk.seen l.master);
 }

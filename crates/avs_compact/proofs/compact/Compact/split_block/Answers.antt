@@ -2,10 +2,10 @@ use Rattle.std.proofs.Common.{rules, ◌≡◌, ◌+◌, ◌*◌, ℕ, List, sub
 use Rattle.std.specs.Option.{option_map}
 use Rattle.std.specs.Vec.{with_items}
 use Rattle.std.proofs.lemmas.List.{with_items_is}
-use Rattle.avs_compact.specs.Entries.{entry_in}
+use Rattle.avs_entries.specs.Entries.{entry_in}
+use Rattle.avs_entries.specs.Staging.{AreSetTo, StagesNext}
+use Rattle.avs_entries.specs.Parts.{split_to}
 use Rattle.avs_compact.specs.CompactSet.{CompactSet, chunks_of, entry_of, next_of}
-use Rattle.avs_compact.specs.Staging.{AreSetTo, StagesNext}
-use Rattle.avs_compact.specs.Ahead.{split_to}
 use Rattle.avs_compact.proofs.Staged.{stages_one}
 use Rattle.avs_compact.proofs.compact.Compact.split_block.Goals as goal
 

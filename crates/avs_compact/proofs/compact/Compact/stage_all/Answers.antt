@@ -1,8 +1,9 @@
 use Rattle.std.proofs.Common.{rules, ◌≡◌, ◌≤◌, ◌+◌, ℕ, Ok, Err, ap, subst, arith}
 use Rattle.avs_seg.specs.declared.fault.Failed.{Failed}
-use Rattle.avs_compact.specs.Entries.{area_len}
+use Rattle.avs_entries.specs.Entries.{area_len}
+use Rattle.avs_entries.specs.Staging.{updated}
 use Rattle.avs_compact.specs.CompactSet.{CompactSet, chunks_of, entry_of}
-use Rattle.avs_compact.specs.Staging.{StagesBlocks, updated}
+use Rattle.avs_compact.specs.Staging.{StagesBlocks}
 use Rattle.avs_compact.proofs.Staged.{blocks_none, blocks_more, blocks_fail}
 use Rattle.avs_compact.proofs.compact.Compact.stage_all.Goals as goal
 

@@ -1,7 +1,8 @@
 use Rattle.std.proofs.Common.{Ok}
 use Rattle.avs_seg.specs.declared.fault.Failed.{Failed}
+use Rattle.avs_entries.specs.Staging.{updated}
 use Rattle.avs_compact.specs.CompactSet.{entry_of}
-use Rattle.avs_compact.specs.Staging.{StagesBlocks, updated}
+use Rattle.avs_compact.specs.Staging.{StagesBlocks}
 use Rattle.avs_compact.proofs.compact.Compact.stage_all.Given as goal
 
 abbrev pub invariant-loop-at : goal.invariant-loop-at

@@ -2,9 +2,9 @@ use Rattle.std.proofs.Common.{rules, ◌≡◌, ◌+◌, ◌*◌, ℕ, List, sub
 use Rattle.std.specs.Option.{option_map}
 use Rattle.std.specs.Vec.{with_items}
 use Rattle.std.proofs.lemmas.List.{with_items_is}
-use Rattle.avs_compact.specs.Entries.{entry_in}
+use Rattle.avs_entries.specs.Entries.{entry_in}
+use Rattle.avs_entries.specs.Staging.{AreSetTo, StagesNext, updated}
 use Rattle.avs_compact.specs.CompactSet.{CompactSet, entry_of}
-use Rattle.avs_compact.specs.Staging.{AreSetTo, StagesNext, updated}
 use Rattle.avs_compact.proofs.Staged.{stages_one}
 use Rattle.avs_compact.proofs.compact.Compact.stage_one.Goals as goal
 

@@ -1,8 +1,8 @@
 use Rattle.std.proofs.Common.{rules, ◌≡◌, ◌≤◌, ◌+◌, ◌*◌, ℕ, Ok, Err, ap, subst, arith}
 use Rattle.avs_seg.specs.declared.fault.Failed.{Failed}
+use Rattle.avs_entries.specs.Parts.{split_to, part_blocks}
 use Rattle.avs_compact.specs.CompactSet.{CompactSet, chunks_of, entry_of, next_of}
 use Rattle.avs_compact.specs.Staging.{StagesBlocks}
-use Rattle.avs_compact.specs.Ahead.{split_to, part_blocks}
 use Rattle.avs_compact.proofs.Staged.{blocks_none, blocks_more, blocks_fail, split_same}
 use Rattle.avs_compact.proofs.compact.Compact.stage_split.Goals as goal
 

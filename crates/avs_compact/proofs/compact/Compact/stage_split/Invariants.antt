@@ -1,8 +1,8 @@
 use Rattle.std.proofs.Common.{Ok, ◌*◌}
 use Rattle.avs_seg.specs.declared.fault.Failed.{Failed}
+use Rattle.avs_entries.specs.Parts.{split_to}
 use Rattle.avs_compact.specs.CompactSet.{chunks_of, entry_of, next_of}
 use Rattle.avs_compact.specs.Staging.{StagesBlocks}
-use Rattle.avs_compact.specs.Ahead.{split_to}
 use Rattle.avs_compact.proofs.compact.Compact.stage_split.Given as goal
 
 abbrev pub invariant-loop-place : goal.invariant-loop-place

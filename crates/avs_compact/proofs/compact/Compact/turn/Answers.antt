@@ -3,9 +3,9 @@ use Rattle.std.specs.Option.{option_map}
 use Rattle.std.specs.Vec.{with_items}
 use Rattle.std.proofs.lemmas.List.{with_items_is}
 use Rattle.avs_seg.specs.Segment.{seg_count}
-use Rattle.avs_compact.specs.Entries.{entry_in}
+use Rattle.avs_entries.specs.Entries.{entry_in}
+use Rattle.avs_entries.specs.Slots.{AreEntries, HasBadEntry}
 use Rattle.avs_compact.specs.CompactSet.{CompactSet}
-use Rattle.avs_compact.specs.Slots.{AreEntries, HasBadEntry}
 use Rattle.avs_compact.specs.Staging.{TurnsSet}
 use Rattle.avs_compact.proofs.Turned.{turns}
 use Rattle.avs_compact.proofs.compact.Compact.turn.Goals as goal
