@@ -1,17 +1,19 @@
 -- What a call made of a set, told by another type of faults.
-use Rattle.std.proofs.Common.{◌≡◌, ℕ, true, Result, Ok, Err, ◌∙◌, sym, subst}
-use Rattle.std.proofs.lemmas.Bool.{false≢true}
+use Rattle.std.proofs.Common.{◌≡◌, ℕ, Result, Ok, Err, IsErr, false, true, subst}
 use Rattle.avs_dev.proofs.Going.{all_err}
-use Rattle.avs_model.specs.ShadowSets.{is_compact}
 use Rattle.avs_held.specs.Rooms.{OnDisks}
-use Rattle.avs_held.specs.Calls.{spots_of, SettlesSet}
+use Rattle.avs_held.specs.Calls.{spots_of, SavesChunks}
 
--- a chunk that is settled
-module _ (old new : OnDisks) (chunk target : ℕ) {T E E' : Type 0} where
-  pub settles_fail : (q : Result T E) (e : E) (e' : E') → q ≡ Err e → is_compact old.set.kind ≡ true → SettlesSet old chunk target q new → SettlesSet {T = T} old chunk target (Err e') new
-  settles_fail q e e' is compact p = go (subst (λ (r : Result T E). SettlesSet old chunk target r new) is p)
+-- chunks that are saved
+module _ (old new : OnDisks) (first end : ℕ) {T E E' : Type 0} where
+  pub saves_fail : (q : Result T E) (e : E) → q ≡ Err e → (r : Result T E') → IsErr r → SavesChunks old first end q new → SavesChunks old first end r new
+  saves_fail q e is (Ok x) failed p = absurd (never failed)
     where
-      go : SettlesSet {T = T} old chunk target (Err e) new → SettlesSet {T = T} old chunk target (Err e') new
+      never : false ≡ true → ⊥
+      never no_way = cc
+  saves_fail q e is (Err e') failed p = go (subst (λ (r : Result T E). SavesChunks old first end r new) is p)
+    where
+      go : SavesChunks {T = T} old first end (Err e) new → SavesChunks {T = T} old first end (Err e') new
       go p = record {
         step = λ owned says. let st = p.step owned says in record {
           keeps = record {
@@ -27,13 +29,12 @@ module _ (old new : OnDisks) (chunk target : ℕ) {T E E' : Type 0} where
         };
         keeps = p.keeps;
         memory = tt;
-        adds = λ plain. absurd (false≢true (sym plain ∙ compact));
       }
 
-  pub settles_done : (q : Result T E) (x : T) → q ≡ Ok x → is_compact old.set.kind ≡ true → SettlesSet old chunk target q new → SettlesSet {E = E'} old chunk target (Ok x) new
-  settles_done q x is compact p = go (subst (λ (r : Result T E). SettlesSet old chunk target r new) is p)
+  pub saves_done : (q : Result T E) (x : T) → q ≡ Ok x → SavesChunks old first end q new → SavesChunks {E = E'} old first end (Ok x) new
+  saves_done q x is p = go (subst (λ (r : Result T E). SavesChunks old first end r new) is p)
     where
-      go : SettlesSet {E = E} old chunk target (Ok x) new → SettlesSet {E = E'} old chunk target (Ok x) new
+      go : SavesChunks {E = E} old first end (Ok x) new → SavesChunks {E = E'} old first end (Ok x) new
       go p = record {
         step = λ owned says. let st = p.step owned says in record {
           keeps = record {
@@ -49,5 +50,4 @@ module _ (old new : OnDisks) (chunk target : ℕ) {T E E' : Type 0} where
         };
         keeps = p.keeps;
         memory = p.memory;
-        adds = λ plain. absurd (false≢true (sym plain ∙ compact));
       }

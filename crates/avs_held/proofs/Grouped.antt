@@ -20,12 +20,12 @@ use Rattle.avs_sets.proofs.Putting.{shadow_goes}
 use Rattle.avs_held.specs.declared.held.Seat.{Seat}
 use Rattle.avs_held.specs.Held.{chunk_set, compact_set, area_of}
 use Rattle.avs_chunks.specs.ChunkSet.{ChunkSet}
+use Rattle.avs_entries.specs.Entries.{entry_on}
 use Rattle.avs_compact.specs.CompactSet.{CompactSet}
 use Rattle.avs_seg.specs.Segment.{seg_count}
 use Rattle.avs_held.specs.Rooms.{owners_of, Mine, OnDisks, on_disks, IsOwned, KeepsOwned}
 use Rattle.avs_held.specs.Calls.{SettlesSet, SavesChunks, WritesShadow}
 use Rattle.avs_held.proofs.Told.{own_not_over, past_map}
-use Rattle.avs_compact.specs.Entries.{entry_on}
 
 -- no place behind the last chunk of a set is in the overflow volume
 pub chunks_end : (seat : Seat) (s : ChunkSet) → EndsThere (chunk_set seat s)

@@ -17,4 +17,5 @@ pub mod Stagings
 pub mod Counted
 pub mod Armed
 pub mod Answered
+pub mod EitherKind
 pub mod Grouped

@@ -20,6 +20,7 @@ use Rattle.avs_sets.specs.Says.{BlockSays}
 use Rattle.avs_sets.specs.Sets as sets
 use Rattle.avs_sets.specs.Sets.{SetSeen, SetRead, shadow_disk, KeepsMaster}
 use Rattle.avs_sets.specs.Meaning.{shadow_over}
+use Rattle.avs_sets.specs.Whole.{IsSettled}
 use Rattle.avs_sets.specs.Steps.{read_over, IsKnown, PutsShadow}
 use Rattle.avs_held.specs.declared.held.Seat.{Seat}
 use Rattle.avs_held.specs.Held.{area_of, own_map, chunk_set}
@@ -131,6 +132,7 @@ module _ (seat : Seat) (s s' : ChunkSet) (at : ℕ) (bytes : List ℕ) {T E : Ty
       };
       next = ap (λ (x : ChunkSet). own_map (λ c. state_in x.next c)) a.rest;
       there = a.there;
+      settled = λ was. subst (λ (x : ChunkSet). IsSettled (chunk_set seat x)) (sym a.rest) (record { kind = was.kind; each = was.each });
       owned = owned_kept seat s s' m m o;
       over = λ is. refl;
     };

@@ -60,11 +60,14 @@ module _ (seat : Seat) (s s' : ChunkSet) (m m' : Seen) (at : ℕ) (out : List �
   reads_set o = record {
     step = λ owned says. step says o.disk (Mine (chunk_set seat s) o);
     same = on_ok_weaker r (λ is p. on_disks (chunk_set seat (is.0 p)) (is.1 p) o) a.same;
-    rest = ap (λ (x : ChunkSet). chunk_set seat x) a.rest;
-    shadow = subst (λ (d : Seen). sets.disk_of s'.shadow ≡ record d { faults = (sets.disk_of s'.shadow).faults }) (sym (same_disk s.shadow))
-        (subst (λ (d : Seen). d ≡ record (disk_of s.shadow) { faults = d.faults }) (sym (same_disk s'.shadow)) a.shadow);
-    master = a.master;
-    over = refl;
+    reads = record {
+      rest = ap (λ (x : ChunkSet). chunk_set seat x) a.rest;
+      there = a.there;
+      shadow = subst (λ (d : Seen). sets.disk_of s'.shadow ≡ record d { faults = (sets.disk_of s'.shadow).faults }) (sym (same_disk s.shadow))
+          (subst (λ (d : Seen). d ≡ record (disk_of s.shadow) { faults = d.faults }) (sym (same_disk s'.shadow)) a.shadow);
+      master = a.master;
+      over = refl;
+    };
     sure = λ m_steady s_steady o_steady. a.sure m_steady (subst (λ (d : Seen). IsTrue d.steady) (same_disk s.shadow) s_steady);
     shows = λ says kn. on_ok_weaker r (λ is. is ∙ sym (ap (λ (img : Image). range img at (length out / 512)) (image_is says seat s m o.disk kn))) (a.shows (known_set says seat s m o.disk kn) kn.master);
   }

@@ -7,7 +7,7 @@ use Rattle.avs_seg.proofs.Exits.{ok_exit}
 use Rattle.avs_dev.specs.Seen.{Seen, IsTold, shown}
 use Rattle.avs_dev.proofs.Going.{shown_told}
 use Rattle.avs_over.specs.Over.{OverSet}
-use Rattle.avs_compact.specs.Entries.{IsEntry, slot_by, entry_for, entry_in, entry_on}
+use Rattle.avs_entries.specs.Entries.{IsEntry, slot_by, entry_for, entry_in, entry_on}
 use Rattle.avs_compact.specs.CompactSet as compact
 use Rattle.avs_compact.specs.CompactSet.{CompactSet, disk_of, entry_of, disk_entry, next_of, in_slot}
 use Rattle.avs_compact.specs.Disks.{Shadow, Bitmap, Over}
@@ -59,7 +59,7 @@ module _ (seat : Seat) (s s' : CompactSet) (m m' : Seen) (o o' : OverSet) (told 
 
   -- ---- what is copied
 
-  module _ (m_told : IsTold m) (s_told : IsTold (disk_of s.shadow)) (o_told : IsTold o.disk) (kept : ahead.KeepsSlotsFor s o told' first end s' o') (copied : ahead.AreCopied s o m.image told' first end s' o') where
+  module _ (m_told : IsTold m) (s_told : IsTold (disk_of s.shadow)) (o_told : IsTold o.disk) (kept : ahead.KeepsSlotsFor s o (ahead.told_from told' first end) s' o') (copied : ahead.AreCopied s o m.image (ahead.told_from told' first end) s' o') where
     entry_is : (c : ℕ) → first ≤ c → c < end → told' c ≡ true → next_of s' c ≡ entry_for 2 (slot_by (next_of s' c))
     entry_is c low high is = (kept.kept c low high is).entry
 

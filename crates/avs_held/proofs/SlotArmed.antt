@@ -8,7 +8,7 @@ use Rattle.avs_dev.specs.declared.disk.Tear.{Tear}
 use Rattle.avs_flip.specs.Areas.{live_from}
 use Rattle.avs_chunks.specs.Arming as chunked
 use Rattle.avs_chunks.specs.ChunkSet as chunked_set
-use Rattle.avs_compact.specs.Entries.{entry_in, entry_on}
+use Rattle.avs_entries.specs.Entries.{entry_in, entry_on}
 use Rattle.avs_compact.specs.CompactSet.{CompactSet, disk_of}
 use Rattle.avs_compact.specs.Arming as arming
 use Rattle.avs_held.specs.declared.held.Seat.{Seat}

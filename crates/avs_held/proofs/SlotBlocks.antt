@@ -9,7 +9,7 @@ use Rattle.avs_dev.specs.Seen.{Seen, IsTold, shown}
 use Rattle.avs_flip.specs.Areas.{live}
 use Rattle.avs_over.specs.Slots.{Owners, owner_at}
 use Rattle.avs_over.specs.Over.{OverSet}
-use Rattle.avs_compact.specs.Entries.{entry_in, entry_on}
+use Rattle.avs_entries.specs.Entries.{entry_in, entry_on}
 use Rattle.avs_compact.specs.CompactSet as compact
 use Rattle.avs_compact.specs.CompactSet.{CompactSet, disk_of, entry_of, disk_entry, shadow_by, master_by, shadow_image, master_image}
 use Rattle.avs_compact.specs.Calls as calls
@@ -114,11 +114,14 @@ module _ (seat : Seat) (s s' : CompactSet) (m m' : Seen) (o o' : OverSet) (at : 
         (λ kn p told. on_same KeepsShadow (shadow_same (plain_read s o) m.image))
         (λ c told lt. entries_same c) says owned;
     same = on_ok_weaker r (λ is p. on_disks (compact_set seat (is.0 p)) (is.1.1 p) (is.1.0 p)) a.same;
-    rest = ap (λ (x : CompactSet). compact_set seat x) a.set;
-    shadow = subst (λ (d : Seen). sets.disk_of s'.shadow ≡ record d { faults = (sets.disk_of s'.shadow).faults }) (sym (same_disk s.shadow))
-        (subst (λ (d : Seen). d ≡ record (disk_of s.shadow) { faults = d.faults }) (sym (same_disk s'.shadow)) a.shadow.1);
-    master = a.master;
-    over = a.over;
+    reads = record {
+      rest = ap (λ (x : CompactSet). compact_set seat x) a.set;
+      there = a.shadow.0;
+      shadow = subst (λ (d : Seen). sets.disk_of s'.shadow ≡ record d { faults = (sets.disk_of s'.shadow).faults }) (sym (same_disk s.shadow))
+          (subst (λ (d : Seen). d ≡ record (disk_of s.shadow) { faults = d.faults }) (sym (same_disk s'.shadow)) a.shadow.1);
+      master = a.master;
+      over = a.over;
+    };
     sure = λ m_steady s_steady o_steady. a.sure m_steady (subst (λ (d : Seen). IsTrue d.steady) (same_disk s.shadow) s_steady) o_steady;
     shows = λ says kn. on_ok_weaker r (λ is. is ∙ sym (ap (λ (img : Image). range img at (length out / 512)) (image_is says seat s m o form kn))) (a.shows (known_set says seat s m o form kn) kn.master);
   }
@@ -228,6 +231,7 @@ module _ (seat : Seat) (s s' : CompactSet) (o o' : OverSet) (at : ℕ) (bytes : 
         };
         next = ap (λ (x : CompactSet). slot_map x.own (seg_count x.blocks) (λ c. entry_in x.next c)) a.is;
         there = a.there;
+        settled = λ k. absurd (never k.kind);
         owned = owned_still;
         over = λ is. absurd (never (sym is));
       };

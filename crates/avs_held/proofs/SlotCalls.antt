@@ -8,9 +8,9 @@ use Rattle.avs_dev.specs.Seen.{Seen, IsTold, shown}
 use Rattle.avs_over.specs.Over.{OverSet}
 use Rattle.avs_chunks.specs.Copying as chunked
 use Rattle.avs_chunks.specs.Due.{is_due}
+use Rattle.avs_entries.specs.Entries.{state_by}
 use Rattle.avs_compact.specs.declared.fault.CompactFault.{CompactFault}
 use Rattle.avs_compact.specs.declared.fault.CompactFault.TheVariants as fault
-use Rattle.avs_compact.specs.Entries.{state_by}
 use Rattle.avs_compact.specs.CompactSet as compact
 use Rattle.avs_compact.specs.CompactSet.{CompactSet, entry_of, disk_entry}
 use Rattle.avs_compact.specs.Disks.{Shadow}

@@ -3,10 +3,10 @@ use Rattle.std.proofs.Common.{◌≡◌, ℕ, zero, suc, ◌+◌, ◌-◌, ◌*�
 use Rattle.std.specs.List.{range_with_len}
 use Rattle.std.proofs.lemmas.Bool.{lt-ltb}
 use Rattle.avs_model.specs.ShadowSets.{chunks_in}
-use Rattle.avs_compact.specs.Entries.{state_by}
+use Rattle.avs_entries.specs.Entries.{state_by}
+use Rattle.avs_entries.specs.Counting.{is_touched, count_of, is_in}
 use Rattle.avs_compact.specs.CompactSet as compact
-use Rattle.avs_compact.specs.CompactSet.{CompactSet, entry_of, is_touched, count_of}
-use Rattle.avs_compact.specs.Counting.{is_in}
+use Rattle.avs_compact.specs.CompactSet.{CompactSet, entry_of}
 use Rattle.avs_compact.specs.Staging as staging
 use Rattle.avs_chunks.specs.Staging.{told_by, part_end}
 use Rattle.avs_held.specs.declared.held.Seat.{Seat}

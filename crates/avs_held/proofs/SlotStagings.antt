@@ -10,14 +10,14 @@ use Rattle.avs_dev.specs.Devices.{AllGoOn, raised}
 use Rattle.avs_dev.proofs.Going.{shown_told}
 use Rattle.avs_over.specs.Over.{OverSet}
 use Rattle.avs_chunks.specs.Staging.{to_master}
-use Rattle.avs_compact.specs.Entries.{IsEntry, state_by, slot_by, entry_for, entry_in, entry_on, area_len}
+use Rattle.avs_entries.specs.Entries.{IsEntry, state_by, slot_by, entry_for, entry_in, entry_on, area_len}
+use Rattle.avs_entries.specs.Slots.{AreEntries}
 use Rattle.avs_compact.specs.CompactSet as compact
 use Rattle.avs_compact.specs.CompactSet.{CompactSet, disk_of, entry_of, disk_entry, next_of, staged_entry, in_slot}
 use Rattle.avs_compact.specs.Disks.{four, disk_at}
 use Rattle.avs_compact.specs.Calls as calls
 use Rattle.avs_compact.specs.Places.{ArePlaced}
 use Rattle.avs_compact.specs.Keeping as keeping
-use Rattle.avs_compact.specs.Slots.{AreEntries}
 use Rattle.avs_compact.specs.Staging as staging
 use Rattle.avs_compact.specs.Ahead as ahead
 use Rattle.avs_compact.proofs.Going.{bitmap_goes}

@@ -9,7 +9,7 @@ use Rattle.avs_dev.specs.Devices.{AllGoOn}
 use Rattle.avs_dev.proofs.Going.{shown_told}
 use Rattle.avs_over.specs.Slots.{Owners, owner_at}
 use Rattle.avs_over.specs.Over.{OverSet}
-use Rattle.avs_compact.specs.Entries.{IsEntry, state_by, slot_by, entry_in, entry_on}
+use Rattle.avs_entries.specs.Entries.{IsEntry, state_by, slot_by, entry_in, entry_on}
 use Rattle.avs_compact.specs.CompactSet as compact
 use Rattle.avs_compact.specs.CompactSet.{CompactSet, disk_of, entry_of, disk_entry}
 use Rattle.avs_compact.specs.Disks.{Master, Shadow, Bitmap, Over, disk_at}
@@ -260,6 +260,7 @@ held_kept seat s s' m m' o o' r form k = record {
   bitmap = λ told. bitmap_kept seat s s' (same_slots s s' k.shape) told ((k.goes.lasts Bitmap).told told) (k.bitmap told);
   next = λ p. slot_map (k.shape.own p) (seg_count (k.shape.blocks p)) (λ c. entry_in (k.shape.next p) c);
   there = k.shape.there;
+  settled = λ was. absurd (never was.kind);
   owned = slots_kept seat s s' m m' o o' (same_slots s s' k.shape) form k.over k.slots;
   over = λ is. absurd (never (sym is));
 }

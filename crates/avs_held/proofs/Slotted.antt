@@ -9,7 +9,7 @@ use Rattle.avs_dev.specs.Devices.{AllGoOn}
 use Rattle.avs_dev.proofs.Going.{shown_told}
 use Rattle.avs_over.specs.Slots.{owner_at}
 use Rattle.avs_over.specs.Over.{OverSet, slots}
-use Rattle.avs_compact.specs.Entries.{IsEntry, state_by, slot_by, entry_on}
+use Rattle.avs_entries.specs.Entries.{IsEntry, state_by, slot_by, entry_on}
 use Rattle.avs_compact.specs.CompactSet as compact
 use Rattle.avs_compact.specs.CompactSet.{CompactSet, disk_of, entry_of, disk_entry, in_slot}
 use Rattle.avs_compact.specs.Disks.{CompactDisk, Master, Shadow, Bitmap, Over, disk_at}

@@ -10,7 +10,6 @@ use Rattle.avs_dev.specs.Devices.{AllGoOn, raised}
 use Rattle.avs_bits.specs.Bit.{bit_of}
 use Rattle.avs_model.specs.ShadowSets.{is_compact}
 use Rattle.avs_over.specs.Over.{OverSet}
-use Rattle.avs_compact.specs.Entries as entries
 use Rattle.avs_dev.proofs.Going.{shown_told}
 use Rattle.avs_chunks.specs.States.{state_in, state_on}
 use Rattle.avs_chunks.specs.ChunkSet as chunk
@@ -32,6 +31,7 @@ use Rattle.avs_held.proofs.Projected.{same_disk, shown_is, live_is, staged_is, p
 use Rattle.avs_held.proofs.Keeping.{IsSameHeld, shows_same, owned_kept}
 use Rattle.avs_held.proofs.Settled.{same_held}
 use Rattle.avs_held.proofs.ShadowReads.{master_same, shadow_same}
+use Rattle.avs_entries.specs.Entries as entries
 
 -- ---- states are staged
 

@@ -2,7 +2,7 @@
 use Rattle.std.proofs.Common.{◌≡◌, ◌≢◌, ◌⊎◌, inl, inr, ℕ, ◌+◌, ◌-◌, ◌*◌, ◌/◌, ◌%◌, ◌^◌, ◌<◌, ◌≤◌, Bool, true, false, cond, eqb, nat_lt, ◌&&◌, ◌||◌, ◌∙◌, sym, refl, ap, arith}
 use Rattle.std.proofs.lemmas.Bool.{cases_lt, cases_eq, lt-ltb, le-ltb, eq-eqb, ne_eqb}
 use Rattle.avs_seg.specs.Image.{Image, block_at}
-use Rattle.avs_compact.specs.Entries.{IsEntry, state_by, slot_by, entry_for}
+use Rattle.avs_entries.specs.Entries.{IsEntry, state_by, slot_by, entry_for}
 use Rattle.avs_compact.specs.CompactSet.{in_slot}
 use Rattle.avs_sets.specs.Sets.{OwnSlot, OverSlot, block_in}
 use Rattle.avs_held.specs.Held.{has_form, told_state, slot_place, told_place, slot_map}

@@ -13,6 +13,7 @@ use Rattle.avs_compact.specs.declared.fault.CompactFault.TheVariants as fault
 use Rattle.avs_sets.specs.Says.{BlockSays}
 use Rattle.avs_sets.specs.Sets.{on_master, on_both, split, on_shadow, SetSeen, ChunkMap, chunks_of, shadow_disk}
 use Rattle.avs_sets.specs.Meaning.{shadow_over}
+use Rattle.avs_sets.specs.Whole.{IsSettled}
 use Rattle.avs_sets.specs.Steps.{SetSpot, OfMaster, OfShadow, OfBitmap, OfOver, set_disks, read_over, IsKnown, ShowsSame, Settles, Splits, SavesRange, PutsShadow}
 use Rattle.avs_compact.specs.CompactSet.{CompactSet, need_of, room_of}
 use Rattle.avs_held.specs.declared.held.Seat.{Seat}
@@ -29,11 +30,6 @@ pub record MaySettle (s : SetSeen) (chunk target : ℕ) : Type 0 where
   pub whole : s.memory.state chunk ≢ split
   pub copies : target ≡ on_both → (s.memory.state chunk ≡ on_master) ⊎ (s.memory.state chunk ≡ on_shadow)
   pub left : target ≡ on_both → is_independent s.kind ≢ true → s.memory.state chunk ≡ on_shadow
-
--- no chunk of an independent set stands on one of the disks alone
-pub record IsSettled (s : SetSeen) : Type 0 where
-  pub kind : is_independent s.kind ≡ true
-  pub settled : (c : ℕ) → c < chunks_of s → (s.memory.state c ≡ on_both) ⊎ (s.memory.state c ≡ split)
 
 -- chunks can be saved: the shadow's disk is there, or none of them needs it
 abbrev pub CanSave : SetSeen → Type 0
@@ -64,11 +60,12 @@ pub record KeepsBitmap (old new : SetSeen) : Type 0 where
   pub label : block_at (shown new.bitmap) 0 ≡ block_at (shown old.bitmap) 0
   pub staged : new.area (not old.live_b) ≡ old.area (not old.live_b)
 
--- what each call on the contents keeps of a set beside
+-- what each call on the contents keeps of a set beside: where none of its chunks stands on one disk alone, none does then
 pub record KeepsHeld (old new : OnDisks) : Type 0 where
   pub bitmap : IsTold old.set.bitmap → KeepsBitmap old.set new.set
   pub next : new.set.next ≡ old.set.next
   pub there : is_some new.set.shadow ≡ is_some old.set.shadow
+  pub settled : IsSettled old.set → IsSettled new.set
   pub owned : KeepsOwned old new
   pub over : is_compact old.set.kind ≡ false → new.over ≡ old.over
 
@@ -122,14 +119,19 @@ pub record SavesSet {T : Type 0} (seat : Seat) (s : CompactSet) (old : OnDisks) 
 
 -- ---- the shadow's blocks
 
+-- nothing changes but counts of faults
+pub record ReadsAlone (old new : OnDisks) : Type 0 where
+  pub rest : new.set ≡ record old.set { shadow = new.set.shadow }
+  pub there : is_some new.set.shadow ≡ is_some old.set.shadow
+  pub shadow : shadow_disk new.set ≡ record (shadow_disk old.set) { faults = (shadow_disk new.set).faults }
+  pub master : new.master ≡ record old.master { faults = new.master.faults }
+  pub over : new.over ≡ record old.over { disk = record old.over.disk { faults = new.over.disk.faults } }
+
 -- Blocks of the shadow are read. Where that fails nothing changes but the count of faults of one disk.
 pub record ReadsShadow {T E : Type 0} (old : OnDisks) (at : ℕ) (out : List ℕ) (result : Result T E) (new : OnDisks) : Type 0 where
   pub step : IsOwned old → (says : BlockSays) → ShowsSame says (Mine old.set new.over) old.set old.master old.over.disk result new.set new.master new.over.disk
   pub same : OnOk result (new ≡ old)
-  pub rest : new.set ≡ record old.set { shadow = new.set.shadow }
-  pub shadow : shadow_disk new.set ≡ record (shadow_disk old.set) { faults = (shadow_disk new.set).faults }
-  pub master : new.master ≡ record old.master { faults = new.master.faults }
-  pub over : new.over ≡ record old.over { disk = record old.over.disk { faults = new.over.disk.faults } }
+  pub reads : ReadsAlone old new
   pub sure : IsTrue old.master.steady → IsTrue (shadow_disk old.set).steady → IsTrue old.over.disk.steady → IsOk result
   pub shows : (says : BlockSays) → IsKnown says old.set old.master old.over.disk
       → OnOk result (blocks_of out ≡ range (shadow_over (read_over says old.set old.over.disk) (shown old.master)) at (length out / 512))

@@ -8,7 +8,7 @@ use Rattle.avs_model.specs.ShadowSets.{ChunkLists, is_compact}
 use Rattle.avs_model.specs.declared.shadow.Kind.TheVariants as kinds
 use Rattle.avs_chunks.specs.States.{state_in, state_on}
 use Rattle.avs_chunks.specs.ChunkSet.{ChunkSet}
-use Rattle.avs_compact.specs.Entries.{state_by, slot_by, entry_in, entry_on}
+use Rattle.avs_entries.specs.Entries.{state_by, slot_by, entry_in, entry_on}
 use Rattle.avs_compact.specs.CompactSet.{CompactSet}
 use Rattle.avs_sets.specs.Sets.{on_master, ChunkMap, ChunkPlace, OwnSlot, OverSlot, SetSeen}
 use Rattle.avs_sets.specs.Meaning.{lists_by}

@@ -4,3 +4,4 @@ pub mod Calls
 pub mod Staging
 pub mod Counting
 pub mod Arming
+pub mod Any

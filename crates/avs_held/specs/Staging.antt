@@ -9,13 +9,13 @@ use Rattle.avs_model.specs.ShadowSets.{is_compact}
 use Rattle.avs_chunks.specs.States.{sum_from}
 use Rattle.avs_chunks.specs.Disks.{ChunkDisk, copy_work}
 use Rattle.avs_chunks.specs.Staging.{AreSetTo, told_by}
-use Rattle.avs_compact.specs.Entries as entries
 use Rattle.avs_over.specs.Over.{OverSet}
 use Rattle.avs_sets.specs.Says.{BlockSays}
 use Rattle.avs_sets.specs.Sets.{on_master, split, SetSeen, ChunkMap, ChunkPlace, OwnSlot, OverSlot, chunks_of, shadow_disk, block_in}
 use Rattle.avs_sets.specs.Steps.{ShowsSame}
 use Rattle.avs_held.specs.Rooms.{Mine, OnDisks, on_disks, IsOwned, KeepsOwned}
 use Rattle.avs_held.specs.Calls.{AddsTo}
+use Rattle.avs_entries.specs.Entries as entries
 
 -- ---- staging
 

@@ -1,7 +1,8 @@
 // Chunks that are settled and copied.
-ghost use Rattle.std.specs.Prelude.{◌≡◌, ◌≤◌, IsTrue, is_some};
+ghost use Rattle.std.specs.Prelude.{◌≡◌, ◌+◌, ◌≤◌, IsTrue, is_some, IfErr};
 ghost use Rattle.avs_chunks.specs.States.{code_of};
 ghost use Rattle.avs_over.specs.Over.{OverSet};
+ghost use Rattle.avs_compact.specs.declared.fault.CompactFault.TheVariants as fault;
 ghost use Rattle.avs_sets.specs.Sets.{chunks_of};
 ghost use Rattle.avs_held.specs.Held.{seen_of};
 ghost use Rattle.avs_held.specs.Rooms.{on_disks};
@@ -9,6 +10,7 @@ ghost use Rattle.avs_held.specs.Calls.{MaySettle, CanSave, SettlesSet, SavesChun
 
 use crate::held::HeldSet;
 use avs_chunks::ChunkState;
+use avs_compact::CompactFault;
 use avs_dev::Disk;
 use avs_seg::Failed;
 
@@ -35,6 +37,24 @@ impl<D: Disk> HeldSet<D> {
             (on_disks (seen_of self.new) (D.seen master.new) o) }
     {
         self.chunks.save_range(master, first, end)
+    }
+
+    /// Saves so many chunks from one on. A set in chunks never lacks room.
+    pub fn save_before(
+        &mut self,
+        master: &mut D,
+        first: u32,
+        count: u32,
+    ) -> Result<(), CompactFault>
+        requires inside { first + count ≤ chunks_of (seen_of self.old) }
+        requires blocks { (D.seen master.old).size ≡ (seen_of self.old).size.blocks }
+        requires can { CanSave (seen_of self.old) }
+        ensures saves { (o : OverSet) → SavesChunks (on_disks (seen_of self.old) (D.seen master.old) o) first (first + count) result
+            (on_disks (seen_of self.new) (D.seen master.new) o) }
+        ensures cause { IfErr result (λ e. e ≡ fault.Failed) }
+    {
+        let _chunks = self.chunks();
+        Ok(self.save_range(master, first, first + count)?)
     }
 
     /// Copies the least chunk that stands on the shadow alone, or of an independent set on the master alone, to the other

@@ -2,7 +2,7 @@
 ghost use Rattle.std.specs.Prelude.{◌≡◌, ◌<◌, IsOk, IfOk};
 ghost use Rattle.avs_model.specs.ShadowSets.{chunks_in};
 ghost use Rattle.avs_chunks.specs.States.{code_of, area_len};
-ghost use Rattle.avs_compact.specs.Entries.{code_of as slot_code};
+ghost use Rattle.avs_entries.specs.Entries.{code_of as slot_code};
 ghost use Rattle.avs_compact.specs.CompactSet.{HasTaken, over_of, room_by_rule, room_of};
 ghost use Rattle.avs_sets.specs.Sets.{chunks_of};
 ghost use Rattle.avs_held.specs.Held.{lists_of, slots_seen};

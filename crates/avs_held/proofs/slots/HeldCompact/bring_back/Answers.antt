@@ -14,7 +14,7 @@ pub invariant_of-self : goal.invariant_of-self
 invariant_of-self g c =
     let there : c.args.chunk < compact.chunks_of c.self.inside.compact = rw (← c.self.view_is) at c.requires.chunk in
     let back = rw (← c.self.view_is) at c.requires.back in
-    let keeps = (c.bring_back-settled.ensures.settles (sym (memory_state c.self.inside.compact c.keeps_form.ensures.form c.args.chunk there) ∙ back)).keeps in
+    let keeps = (c.bring_back-settled.ensures.brings.settles (sym (memory_state c.self.inside.compact c.keeps_form.ensures.form c.args.chunk there) ∙ back)).keeps in
     seated_kept c.self.inside.seat c.self.inside.compact c.bring_back-settled.new.self (same_slots c.self.inside.compact c.bring_back-settled.new.self keeps.shape) (keeps.goes.lasts Shadow).size c.self.invariant
 
 pub returns : goal.returns
@@ -22,4 +22,4 @@ returns g c =
     let there : c.args.chunk < compact.chunks_of c.self.inside.compact = rw (← c.self.view_is) at c.requires.chunk in
     let back = rw (← c.self.view_is) at c.requires.back in
     rw (← c.self.view_is) (brings_back c.self.inside.seat c.self.inside.compact c.bring_back-settled.new.self (g.D.Disk.seen c.args.master.now) (g.D.Disk.seen c.bring_back-settled.new.master) (over_of c.args.over.now) (over_of c.bring_back-settled.new.over) c.bring_back-settled.result c.args.chunk c.self.invariant c.keeps_form.ensures.form c.keeps_form-2.ensures.form there
-    (sym (memory_state c.self.inside.compact c.keeps_form.ensures.form c.args.chunk there) ∙ back) c.bring_back-settled.ensures)
+    (sym (memory_state c.self.inside.compact c.keeps_form.ensures.form c.args.chunk there) ∙ back) c.bring_back-settled.ensures.brings)

@@ -7,7 +7,7 @@ pub copy_one-copied-requires-clause-slots : goal.copy_one-copied-requires-clause
 copy_one-copied-requires-clause-slots g c = served_set c.self.inside.seat c.self.inside.compact (over_of c.args.over.now) c.keeps_form.ensures.form (rw (← c.self.view_is) at c.requires.served)
 
 pub invariant_of-self : goal.invariant_of-self
-invariant_of-self g c = copied_seat c.self.inside.seat c.self.inside.compact c.copy_one-copied.new.self (g.D.Disk.seen c.args.master.now) (g.D.Disk.seen c.copy_one-copied.new.master) (over_of c.args.over.now) (over_of c.copy_one-copied.new.over) c.copy_one-copied.ensures.due c.copy_one-copied.result c.self.invariant c.copy_one-copied.ensures.copies
+invariant_of-self g c = copied_seat c.self.inside.seat c.self.inside.compact c.copy_one-copied.new.self (g.D.Disk.seen c.args.master.now) (g.D.Disk.seen c.copy_one-copied.new.master) (over_of c.args.over.now) (over_of c.copy_one-copied.new.over) c.copy_one-copied.ensures.copies.due c.copy_one-copied.result c.self.invariant c.copy_one-copied.ensures.copies.copies
 
 pub returns : goal.returns
-returns g c = rw (← c.self.view_is) (copies_one c.self.inside.seat c.self.inside.compact c.copy_one-copied.new.self (g.D.Disk.seen c.args.master.now) (g.D.Disk.seen c.copy_one-copied.new.master) (over_of c.args.over.now) (over_of c.copy_one-copied.new.over) c.copy_one-copied.result c.self.invariant c.keeps_form.ensures.form c.keeps_form-2.ensures.form c.copy_one-copied.ensures)
+returns g c = rw (← c.self.view_is) (copies_one c.self.inside.seat c.self.inside.compact c.copy_one-copied.new.self (g.D.Disk.seen c.args.master.now) (g.D.Disk.seen c.copy_one-copied.new.master) (over_of c.args.over.now) (over_of c.copy_one-copied.new.over) c.copy_one-copied.result c.self.invariant c.keeps_form.ensures.form c.keeps_form-2.ensures.form c.copy_one-copied.ensures.copies)

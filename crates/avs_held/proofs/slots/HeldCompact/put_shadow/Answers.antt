@@ -13,7 +13,7 @@ put_shadow-requires-clause-split g c =
     split_slots c.self.inside.seat c.self.inside.compact c.keeps_form.ensures.form c.args.at _ inside split
 
 pub invariant_of-self : goal.invariant_of-self
-invariant_of-self g c = put_seat c.self.inside.seat c.self.inside.compact c.put_shadow.new.self (over_of c.args.over.now) (over_of c.put_shadow.new.over) c.args.at c.args.bytes.now c.put_shadow.result c.self.invariant c.keeps_form.ensures.form c.put_shadow.ensures
+invariant_of-self g c = put_seat c.self.inside.seat c.self.inside.compact c.put_shadow.new.self (over_of c.args.over.now) (over_of c.put_shadow.new.over) c.args.at c.args.bytes.now c.put_shadow.result c.self.invariant c.keeps_form.ensures.form c.put_shadow.ensures.puts
 
 pub returns : goal.returns
-returns g c = rw (← c.self.view_is) (writes_set c.self.inside.seat c.self.inside.compact c.put_shadow.new.self (over_of c.args.over.now) (over_of c.put_shadow.new.over) c.args.at c.args.bytes.now c.put_shadow.result c.self.invariant c.keeps_form.ensures.form c.put_shadow.ensures)
+returns g c = rw (← c.self.view_is) (writes_set c.self.inside.seat c.self.inside.compact c.put_shadow.new.self (over_of c.args.over.now) (over_of c.put_shadow.new.over) c.args.at c.args.bytes.now c.put_shadow.result c.self.invariant c.keeps_form.ensures.form c.put_shadow.ensures.puts)

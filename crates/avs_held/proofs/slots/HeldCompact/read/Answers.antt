@@ -7,7 +7,7 @@ pub read-requires-clause-slots : goal.read-requires-clause-slots
 read-requires-clause-slots g c = served_set c.self.inside.seat c.self.inside.compact (over_of c.args.over.now) c.keeps_form.ensures.form (rw (← c.self.view_is) at c.requires.served)
 
 pub invariant_of-self : goal.invariant_of-self
-invariant_of-self g c = read_seat c.self.inside.seat c.self.inside.compact c.read.new.self (g.D.Disk.seen c.args.master.now) (g.D.Disk.seen c.read.new.master) (over_of c.args.over.now) (over_of c.read.new.over) c.args.at c.read.new.out c.read.result c.self.invariant c.keeps_form.ensures.form c.read.ensures
+invariant_of-self g c = read_seat c.self.inside.seat c.self.inside.compact c.read.new.self (g.D.Disk.seen c.args.master.now) (g.D.Disk.seen c.read.new.master) (over_of c.args.over.now) (over_of c.read.new.over) c.args.at c.read.new.out c.read.result c.self.invariant c.keeps_form.ensures.form c.read.ensures.reads
 
 pub returns : goal.returns
-returns g c = rw (← c.self.view_is) (reads_set c.self.inside.seat c.self.inside.compact c.read.new.self (g.D.Disk.seen c.args.master.now) (g.D.Disk.seen c.read.new.master) (over_of c.args.over.now) (over_of c.read.new.over) c.args.at c.read.new.out c.read.result c.self.invariant c.keeps_form.ensures.form c.read.ensures)
+returns g c = rw (← c.self.view_is) (reads_set c.self.inside.seat c.self.inside.compact c.read.new.self (g.D.Disk.seen c.args.master.now) (g.D.Disk.seen c.read.new.master) (over_of c.args.over.now) (over_of c.read.new.over) c.args.at c.read.new.out c.read.result c.self.invariant c.keeps_form.ensures.form c.read.ensures.reads)

@@ -1,9 +1,8 @@
 use Rattle.std.proofs.Common.{◌*◌}
-use Rattle.avs_compact.specs.CompactSet.{CompactSet, over_of, disk_of}
+use Rattle.avs_entries.specs.Entries as entries
+use Rattle.avs_compact.specs.CompactSet.{CompactSet, over_of, disk_of, entry_of}
 use Rattle.avs_compact.specs.CompactSet as compact
 use Rattle.avs_chunks.specs.States.{area_len}
-use Rattle.avs_compact.specs.Entries as entries
-use Rattle.avs_compact.specs.CompactSet.{entry_of}
 use Rattle.avs_held.proofs.SlotStagings.{stages_set, staged_seat, told_none, whole_blocks}
 use Rattle.avs_held.proofs.slots.HeldCompact.stage_shadow.Goals as goal
 

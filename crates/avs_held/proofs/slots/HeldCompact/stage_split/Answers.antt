@@ -1,9 +1,7 @@
-use Rattle.std.proofs.Common.{◌*◌, ◌<◌, arith}
-use Rattle.avs_compact.specs.CompactSet.{CompactSet, over_of, disk_of}
+use Rattle.std.proofs.Common.{◌*◌, ◌<◌, arith, refl}
+use Rattle.avs_compact.specs.CompactSet.{CompactSet, over_of, disk_of, entry_of}
 use Rattle.avs_compact.specs.CompactSet as compact
 use Rattle.avs_chunks.specs.States.{area_len}
-use Rattle.avs_compact.specs.CompactSet.{entry_of}
-use Rattle.std.proofs.Common.{refl}
 use Rattle.avs_compact.specs.Ahead as ahead
 use Rattle.avs_held.specs.Held.{compact_set}
 use Rattle.avs_held.specs.Staging.{split_state}
