@@ -1,0 +1,13 @@
+pub mod Adding
+pub mod ByName
+pub mod Overs
+pub mod OneSet
+pub mod NextChunk
+pub mod Committing
+pub mod Exits
+pub mod ReadSets
+pub mod Opening
+pub mod Stamps
+pub mod Picks
+pub mod AtPlace
+pub mod Refusing

@@ -1,0 +1,5 @@
+pub mod Group
+pub mod Calls
+pub mod Named
+pub mod Status
+pub mod Reads

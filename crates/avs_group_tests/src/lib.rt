@@ -1,0 +1,5 @@
+//! Shadow groups over disks in memory, by their public calls.
+#![tactic(auto)]
+
+#[cfg(test)]
+mod tests;
