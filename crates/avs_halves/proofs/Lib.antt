@@ -4,3 +4,8 @@ pub mod Changed
 pub mod Loaded
 pub mod Staying
 pub mod Lying
+pub mod Following
+pub mod Writings
+pub mod Markings
+pub mod Filling
+pub mod Restored

@@ -7,3 +7,4 @@ pub mod Going
 pub mod Over
 pub mod Found
 pub mod Words
+pub mod Marks
