@@ -30,11 +30,15 @@ blocks_of_entry entry = length entry.bytes
 abbrev pub blocks_held : Queue → ℕ
 blocks_held queue = sum_by blocks_of_entry queue.entries
 
--- as many entries are held as there may be, or the blocks held and those of the new entry are together more than there may be
-abbrev pub is_full : Queue → Entry → Bool
-is_full queue entry =
+-- as many entries are held as there may be, or the blocks held and so many more are together more than there may be
+abbrev pub is_full_for : Queue → ℕ → Bool
+is_full_for queue blocks =
     nat_le queue.limits.writes (length queue.entries)
-    || nat_lt queue.limits.blocks (blocks_held queue + blocks_of_entry entry)
+    || nat_lt queue.limits.blocks (blocks_held queue + blocks)
+
+-- a new entry does not fit
+abbrev pub is_full : Queue → Entry → Bool
+is_full queue entry = is_full_for queue (blocks_of_entry entry)
 
 -- what a full queue holds
 abbrev pub full_of : Queue → Full

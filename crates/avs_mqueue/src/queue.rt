@@ -1,7 +1,7 @@
 // Entries that are held in memory until they are known as applied.
-ghost use Rattle.std.specs.Prelude.{◌≡◌, ◌+◌, ◌*◌, ◌^◌, ◌<◌, ◌≤◌, ◌↔◌, [], IsSome, OnOk, OnErr, IfOk, IfErr, is_err, length};
+ghost use Rattle.std.specs.Prelude.{◌≡◌, ◌+◌, ◌*◌, ◌^◌, ◌<◌, ◌≤◌, ◌↔◌, [], IsSome, OnOk, OnErr, IfOk, IfErr, IfSome, is_err, is_some, false, length};
 ghost use Rattle.std.specs.Option.{option_copied};
-ghost use Rattle.avs_mqueue.specs.Queue.{next_place, entry_at, IsHeld, blocks_of_entry, is_full, full_of, KeepsLimits, Pushes, Advances};
+ghost use Rattle.avs_mqueue.specs.Queue.{next_place, entry_at, IsHeld, blocks_of_entry, is_full, is_full_for, full_of, KeepsLimits, Pushes, Advances};
 
 use avs_model::{Entry, Full, Limits};
 use avs_seg::{BLOCK, NoMemory};
@@ -51,6 +51,41 @@ impl MemQueue {
         })
     }
 
+    /// What the queue holds, where it is full for an entry of so many blocks; `None` exactly where such an entry fits.
+    pub fn full_for(&self, blocks: usize) -> Option<Full>
+        requires { 512 * blocks < 2 ^ 64 }
+        ensures full { is_some result ≡ is_full_for self.now blocks }
+        ensures numbers { IfSome result (λ full. full ≡ full_of self.now) }
+        ensures within { KeepsLimits self.now }
+    {
+        let held = self.entries.len();
+        if held >= self.limits.writes as usize
+            || self.blocks as usize + blocks > self.limits.blocks as usize
+        {
+            return Some(Full {
+                writes: held as u32,
+                blocks: self.blocks,
+            });
+        }
+        None
+    }
+
+    /// Adds an entry that fits at the next place, or at any place where none is held.
+    pub fn add(&mut self, place: u64, entry: Entry)
+        requires next { 0 < length self.old.entries → place ≡ next_place self.old }
+        requires place { place ≤ 2 ^ 62 }
+        requires fits { is_full self.old entry ≡ false }
+        ensures pushes { Pushes self.old place entry self.new }
+        ensures within { KeepsLimits self.new }
+    {
+        let count = block_count(&entry);
+        let held = self.entries.len();
+        // Where some are held, the first place stays.
+        self.first = place - held as u64;
+        self.entries.push_back_reserved(entry);
+        self.blocks += count as u32;
+    }
+
     /// Adds an entry at the next place, or at any place where none is held. A full queue hands the entry back, with how
     /// much it holds.
     pub fn push(&mut self, place: u64, entry: Entry) -> Result<(), (Entry, Full)>
@@ -64,20 +99,10 @@ impl MemQueue {
         ensures unchanged { OnErr result (self.new ≡ self.old) }
     {
         let count = block_count(&entry);
-        let held = self.entries.len();
-        if held >= self.limits.writes as usize
-            || self.blocks as usize + count > self.limits.blocks as usize
-        {
-            let full = Full {
-                writes: held as u32,
-                blocks: self.blocks,
-            };
+        if let Some(full) = self.full_for(count) {
             return Err((entry, full));
         }
-        // Where some are held, the first place stays.
-        self.first = place - held as u64;
-        self.entries.push_back_reserved(entry);
-        self.blocks += count as u32;
+        self.add(place, entry);
         Ok(())
     }
 

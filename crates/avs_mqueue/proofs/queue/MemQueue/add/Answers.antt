@@ -1,9 +1,9 @@
 use Rattle.std.proofs.Common.{ℕ, ◌-◌, ap, refl, ◌∙◌}
 use Rattle.avs_mqueue.proofs.QueueLemmas.{pushes}
-use Rattle.avs_mqueue.proofs.queue.MemQueue.push.Goals as goal
+use Rattle.avs_mqueue.proofs.queue.MemQueue.add.Goals as goal
 
-pub returns-clause-ok : goal.returns-clause-ok
-returns-clause-ok c =
+pub returns-clause-pushes : goal.returns-clause-pushes
+returns-clause-pushes c =
     let next = rw (← c.self.view_is) at c.requires.next in
     rw (← c.self.view_is) (
     let was = c.self.inside in
