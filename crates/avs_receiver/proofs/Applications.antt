@@ -34,7 +34,7 @@ use Rattle.avs_receiver.specs.Meaning.{Finds, IsReceiverInStep, contents_in, ent
 use Rattle.avs_receiver.specs.Applying.{CanApply, IsApplyStopped, IsNext}
 use Rattle.avs_receiver.proofs.Meanings.{lies_is, lies_old, part_slots, part_vols, stored_is, fits_parts, room_stays}
 use Rattle.avs_receiver.proofs.Landings.{entry_mixed, entry_same, found_landed, in_session, is_its, receives}
-use Rattle.avs_receiver.proofs.Writings.{images_one, same_slots, same_vols}
+use Rattle.avs_halves.proofs.Writings.{images_one, same_slots, same_vols}
 
 -- ---- a half that applies an entry, by its parts
 

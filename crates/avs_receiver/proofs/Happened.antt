@@ -34,7 +34,7 @@ use Rattle.avs_receiver.specs.Meaning.{IsReceiverInStep, contents_in, half_by, h
 use Rattle.avs_receiver.specs.Slots.{AreFilled}
 use Rattle.avs_receiver.specs.Applying.{CanApply, IsApplied}
 use Rattle.avs_receiver.proofs.Landings.{applied_twice, entry_is, entry_none, entry_one, is_its, receives}
-use Rattle.avs_receiver.proofs.Writings.{due_one, same_slots, same_vols}
+use Rattle.avs_halves.proofs.Writings.{due_one, same_slots, same_vols}
 use Rattle.avs_receiver.proofs.Applications.{image_before, images_put, marked_contents, fits_landed}
 
 -- ---- what a half is that has applied an entry
@@ -173,7 +173,7 @@ module _ (sound sound_new : Type 0) (sounds : sound → sound_new) (below : Belo
         labels = λ set told. refl;
         below = below_written sound below new (set_at h.sets e.set).vol e.at bytes (Ok u) w;
       };
-      session = record { number = refl; role = refl; reverse = refl; applied = refl; mark = off_cond (is_mark e.kind) place h.note.mark off };
+      session = record { number = refl; role = refl; reverse = refl; applied = refl; mark = off_cond (is_mark e.kind) place h.note.mark off; slots = λ slot low free. refl };
       spared = record { faults = w.cause.same; armed = w.still_armed; sets = λ set. spared_same (set_at h.sets set).bits.disk; land = lands.goes.done };
       done = λ st kept. blocks_then kept st;
       step = λ st. record {
@@ -219,7 +219,7 @@ module _ (sound sound_new : Type 0) (sounds : sound → sound_new) (below : Belo
         labels = λ set. (c.part set).label;
         below = below_noted sound below new p.bytes (Ok u) p.sets;
       };
-      session = record { number = refl; role = refl; reverse = refl; applied = refl; mark = on_cond (is_mark e.kind) place h.note.mark marks };
+      session = record { number = refl; role = refl; reverse = refl; applied = refl; mark = on_cond (is_mark e.kind) place h.note.mark marks; slots = full.others };
       spared = record { faults = p.sets.cause.same; armed = p.sets.still_armed; sets = λ set. (c.done set).spared; land = lands.goes.done };
       done = λ st kept. mark_then kept st.memory.sound;
       step = λ st. record {

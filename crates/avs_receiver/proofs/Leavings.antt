@@ -1,7 +1,5 @@
 -- A receiver leaves by one note.
-use Rattle.std.proofs.Common.{◌≡◌, ◌⊎◌, inl, inr, ℕ, ◌≤◌, Bool, true, false, ◌&&◌, not, cond, eqb, List, [], length, get_or, Result, Ok, Err, Some, ◌∙◌, sym, refl, ap, subst, arith}
-use Rattle.avs_seg.specs.Image.{Image}
-use Rattle.avs_dev.specs.Devices.{NoneFell}
+use Rattle.std.proofs.Common.{◌≡◌, ◌⊎◌, inl, inr, ℕ, ◌≤◌, Bool, true, false, ◌&&◌, not, cond, eqb, List, Result, Ok, Err, Some, ◌∙◌, sym, refl, ap, subst}
 use Rattle.avs_dev.specs.Below.{BelowSeen, SetsNote}
 use Rattle.avs_dev.proofs.Going.{lasts_same, spared_same}
 use Rattle.avs_code.specs.declared.land_headers.LandHeader.{LandHeader}
@@ -37,11 +35,11 @@ none_failed h = record { faults = refl; armed = refl; sets = λ set. spared_same
 
 -- its session in memory is as it was
 pub session_same : (h : ReceiverHalf) → SessionStays h h h.applied h.note.mark
-session_same h = record { number = refl; role = refl; reverse = refl; applied = refl; mark = refl }
+session_same h = record { number = refl; role = refl; reverse = refl; applied = refl; mark = refl; slots = λ slot low free. refl }
 
 -- also where its sets have changed
 pub session_sets : (h : ReceiverHalf) (sets : List SetBits) → SessionStays h (record h { sets = sets }) h.applied h.note.mark
-session_sets h sets = record { number = refl; role = refl; reverse = refl; applied = refl; mark = refl }
+session_sets h sets = record { number = refl; role = refl; reverse = refl; applied = refl; mark = refl; slots = λ slot low free. refl }
 
 pub leaves_nothing : {T E : Type 0} (sound : Type 0) (below : BelowSeen) (h : ReceiverHalf) (u : T) → state_in h.note ≡ Logging → Leaves {E = E} sound sound (held below h) (Ok u) (held below h)
 leaves_nothing sound below h u logging = record {
@@ -131,7 +129,7 @@ pub leaves_ok : {T E : Type 0} (sound sound_new : Type 0) (below new : BelowSeen
     → Leaves {E = E} sound sound_new (held below h) (Ok u) (held new (half_noted h (note_left h.note) h.applied))
 leaves_ok sound sound_new below new h u session p sounds = record {
   stays = noted_stays sound below new h (note_left h.note) h.applied p.bytes (Ok u) p.sets;
-  session = record { number = refl; role = refl; reverse = refl; applied = refl; mark = refl };
+  session = record { number = refl; role = refl; reverse = refl; applied = refl; mark = refl; slots = λ slot low free. refl };
   spared = noted_spared sound below new h (note_left h.note) h.applied p.bytes u p.sets;
   failed = tt;
   done = λ s kept. left_is kept below new h (p.sets.images s);

@@ -1,5 +1,5 @@
 -- A receiver whose volumes an errand has kept.
-use Rattle.std.proofs.Common.{◌≡◌, ℕ, ◌+◌, ◌^◌, ◌<◌, ◌≤◌, Bool, true, false, ◌&&◌, cond, List, [], length, map, get_or, None, Some, ◌∙◌, sym, refl, ap, subst, arith}
+use Rattle.std.proofs.Common.{◌≡◌, ℕ, ◌+◌, ◌^◌, ◌<◌, ◌≤◌, Bool, true, false, ◌&&◌, cond, List, [], length, map, get_or, None, Some, ◌∙◌, sym, refl, ap, subst}
 use Rattle.std.specs.Prelude.{nat_lt}
 use Rattle.std.specs.Option.{option_map_or}
 use Rattle.std.proofs.Math.Path.{fun_ext}
@@ -23,7 +23,7 @@ use Rattle.avs_halves.specs.Over.{IsOver}
 use Rattle.avs_halves.proofs.Lying.{below_is, part_is, there_is}
 use Rattle.avs_land.specs.Redo.{IsRoom}
 use Rattle.avs_receiver.specs.Held.{ReceiverHalf, held, parts_of}
-use Rattle.avs_receiver.specs.Meaning.{IsLandedFor, IsReceiverInStep, found_by, half_by, images_in, is_of, is_redone, receiver_of, redone, state_in, vols_of}
+use Rattle.avs_receiver.specs.Meaning.{IsLandedFor, found_by, half_by, images_in, is_of, is_redone, receiver_of, redone, state_in, vols_of}
 use Rattle.avs_receiver.specs.CatchingUp.{FindsAgain}
 use Rattle.avs_receiver.specs.Lending.{IsLent, KeepsVolumes}
 use Rattle.avs_receiver.proofs.Meanings.{part_vols}

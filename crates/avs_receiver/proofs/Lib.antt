@@ -2,7 +2,6 @@ pub mod Meanings
 pub mod Leavings
 pub mod Askings
 pub mod Slotting
-pub mod Writings
 pub mod Written
 pub mod Stopped
 pub mod Landings
@@ -14,3 +13,5 @@ pub mod Settled
 pub mod Loaded
 pub mod Lent
 pub mod Sure
+pub mod Errands
+pub mod Restorings

@@ -2,7 +2,7 @@
 use Rattle.std.proofs.Common.{◌≡◌, inl, inr, ℕ, ◌<◌, List, length, map, get_or, Some, ◌∙◌, sym, refl, ap, subst, arith}
 use Rattle.std.specs.List.{All}
 use Rattle.std.proofs.lemmas.List.{get_or_past}
-use Rattle.std.proofs.lemmas.List.Elements.{All-from_get_or, All-get_or}
+use Rattle.std.proofs.lemmas.List.Elements.{All-from_get_or}
 use Rattle.std.proofs.lemmas.Bool.{cases_lt}
 use Rattle.avs_dev.specs.Seen.{IsTold}
 use Rattle.avs_dev.specs.Below.{BelowSeen, IsToldAt}
@@ -14,7 +14,7 @@ use Rattle.avs_sync.specs.Note.{IsNote}
 use Rattle.avs_sync.specs.Parts.{MirrorSet}
 use Rattle.avs_sync.specs.declared.note.Note.{Note}
 use Rattle.avs_sync.proofs.Notes.{note_at-is}
-use Rattle.avs_halves.specs.SetBits.{SetBits, AreInStep, disk_at, no_part, no_set, part_of, set_at}
+use Rattle.avs_halves.specs.SetBits.{SetBits, disk_at, no_part, no_set, part_of, set_at}
 use Rattle.avs_halves.specs.Found.{stored_bytes}
 use Rattle.avs_halves.specs.Loading.{HasVolume, IsOpenable, LoadsSets}
 use Rattle.avs_halves.specs.Over.{AreLoadable}

@@ -1,24 +1,16 @@
 -- What a receiver stands for, and what is found of it.
-use Rattle.std.proofs.Common.{◌≡◌, inl, inr, ℕ, ◌+◌, ◌<◌, ◌≤◌, Bool, true, false, ◌&&◌, cond, List, length, map, get_or, Option, None, Some, ◌∙◌, sym, refl, ap, subst, arith}
-use Rattle.std.specs.Prelude.{nat_lt}
+use Rattle.std.proofs.Common.{◌≡◌, ℕ, ◌+◌, ◌<◌, ◌≤◌, Bool, true, false, cond, List, length, map, get_or, Option, None, Some, ◌∙◌, sym, refl, ap, subst}
 use Rattle.std.specs.Option.{option_map_or}
 use Rattle.std.proofs.Math.Path.{fun_ext}
-use Rattle.std.proofs.Math.ListN.{get_or-map}
-use Rattle.std.proofs.lemmas.List.{length-map, get_or_past}
 use Rattle.std.proofs.lemmas.Simd.{map-map}
-use Rattle.std.proofs.lemmas.Bool.{cases_lt}
-use Rattle.std.proofs.lemmas.Bool.Decides.{nat_tests}
-use Rattle.avs_seg.specs.Segment.{seg_count}
-use Rattle.avs_dev.specs.Below.{BelowSeen, IsNoteTold}
-use Rattle.avs_bits.specs.Bit.{disk_bit}
-use Rattle.avs_bits.specs.BitSet.{set_of, place}
+use Rattle.avs_dev.specs.Below.{BelowSeen}
 use Rattle.avs_code.specs.declared.land_headers.LandHeader.{LandHeader}
 use Rattle.avs_mirrors.specs.Due.{Due, nothing_due, zeros, zero_of}
 use Rattle.avs_mirrors.specs.Half.{HalfState, Sets, is_marked, left_receiver}
 use Rattle.avs_sync.specs.Note.{IsNote}
 use Rattle.avs_sync.specs.Parts.{MirrorSet}
 use Rattle.avs_sync.specs.declared.note.Note.{Note}
-use Rattle.avs_halves.specs.SetBits.{SetBits, AreInStep, due_of, set_at, has_bit, part_of, no_set}
+use Rattle.avs_halves.specs.SetBits.{SetBits, AreInStep, due_of, set_at, has_bit, part_of}
 use Rattle.avs_halves.specs.Over.{IsOver}
 use Rattle.avs_halves.specs.Found.{stored_bytes}
 use Rattle.avs_halves.proofs.Lying.{due_is}

@@ -1,22 +1,19 @@
 -- What has landed of its session is done once more.
-use Rattle.std.proofs.Common.{◌≡◌, ◌⊎◌, inl, inr, ℕ, ◌+◌, ◌<◌, ◌≤◌, Bool, true, false, ◌&&◌, not, cond, eqb, List, [], length, get_or, min, Result, Ok, Err, Some, ◌∙◌, sym, refl, ap, subst, arith}
+use Rattle.std.proofs.Common.{◌≡◌, ◌⊎◌, inl, inr, ℕ, ◌<◌, ◌≤◌, Bool, true, false, ◌&&◌, not, cond, eqb, List, [], length, get_or, min, Result, Ok, Err, Some, ◌∙◌, sym, refl, ap, subst, arith}
 use Rattle.std.specs.Prelude.{nat_lt, codes}
 use Rattle.std.proofs.Math.ListN.{get_or-map}
 use Rattle.std.proofs.lemmas.List.{length-map}
 use Rattle.std.proofs.lemmas.Bool.{cases_Bool}
 use Rattle.std.proofs.lemmas.Bool.Decides.{nat_tests}
-use Rattle.avs_seg.specs.Image.{Image, block_at, blocks_of, put, IsMix}
+use Rattle.avs_seg.specs.Image.{Image, block_at, put, IsMix}
 use Rattle.avs_seg.proofs.Ranges.{length-range}
 use Rattle.avs_dev.specs.Seen.{Lasts, Fails}
 use Rattle.avs_dev.specs.Below.{BelowSeen, IsToldAt, WritesBelow}
 use Rattle.avs_dev.specs.declared.back.Why.{Why}
 use Rattle.avs_dev.specs.declared.back.Why.TheVariants.{Fault}
 use Rattle.avs_dev.proofs.Going.{spared_same}
-use Rattle.avs_code.specs.Header.{most_len}
-use Rattle.avs_code.specs.declared.land_headers.LandHeader.{LandHeader}
 use Rattle.avs_code.proofs.HeaderBlocks.{header_at-is}
 use Rattle.avs_model.specs.declared.entry.Entry.{Entry}
-use Rattle.avs_model.specs.declared.entry.EntryKind.{EntryKind}
 use Rattle.avs_model.specs.declared.entry.EntryKind.TheVariants.{Write, Copied, Mark}
 use Rattle.avs_mirrors.specs.Due.{Due, nothing_due}
 use Rattle.avs_mirrors.specs.Entries.{Images, after_entry, is_mark}
@@ -30,22 +27,22 @@ use Rattle.avs_halves.specs.Found.{due_found, stored_bytes}
 use Rattle.avs_halves.specs.Over.{IsOver}
 use Rattle.avs_halves.specs.Writing.{PutsNote}
 use Rattle.avs_halves.proofs.Staying.{below_noted, below_same, below_written, over_sizes, set_same, sets_stay, told_note}
-use Rattle.avs_land.specs.Landed.{IsLanding, entry_kind, landed_blocks}
+use Rattle.avs_land.specs.Landed.{entry_kind, landed_blocks}
 use Rattle.avs_land.specs.Landing.{Landing}
 use Rattle.avs_land.specs.Redo.{AreLanded, IsRoom, Redoing}
 use Rattle.avs_receiver.specs.Held.{ReceiverHalf, ReceiverHeld, ReceiverParts, held, parts_of}
 use Rattle.avs_receiver.specs.Meaning.{Finds, IsLandedFor, IsReceiverFound, entry_on, found_by, half_by, images_in, is_of, is_redone, lies_on, redone, slots_of, state_in, vols_of}
-use Rattle.avs_receiver.specs.Going.{NoneFailed, OneFailed, ReceiverStays, SessionStays}
+use Rattle.avs_receiver.specs.Going.{ReceiverStays}
 use Rattle.avs_receiver.specs.Slots.{AreFilled}
-use Rattle.avs_receiver.specs.CatchingUp.{FindsAgain, HasCaughtUp, IsCaughtUp, IsStoppedSo, RedoesLanded, RestCaught, RestRedone, caught_up, found_of, lies_of, mark_caught}
+use Rattle.avs_receiver.specs.CatchingUp.{FindsAgain, HasCaughtUp, IsStoppedSo, RedoesLanded, RestCaught, RestRedone, caught_up, found_of, lies_of}
 use Rattle.avs_receiver.specs.Marking.{IsMarkNote}
 use Rattle.avs_receiver.proofs.Stopped.{not_err}
 use Rattle.avs_receiver.proofs.Meanings.{fits_parts, fits_stays, lies_is, part_slots, part_vols, room_stays, stored_is}
-use Rattle.avs_receiver.proofs.Leavings.{none_failed, note_failed, session_same, stays_same}
+use Rattle.avs_receiver.proofs.Leavings.{none_failed, note_failed, stays_same}
 use Rattle.avs_receiver.proofs.Landings.{both_on, entry_mixed, entry_none, entry_one, on_true, redone_twice}
-use Rattle.avs_receiver.proofs.Writings.{images_one, same_slots, same_vols}
+use Rattle.avs_halves.proofs.Writings.{images_one, same_slots, same_vols}
 use Rattle.avs_receiver.proofs.Applications.{contents_same, marked_contents}
-use Rattle.avs_receiver.proofs.Happened.{filled_are, off_cond, off_or, on_cond, wiped_are}
+use Rattle.avs_receiver.proofs.Happened.{filled_are, off_cond, off_or, on_cond}
 
 -- ---- one note and one header lie there
 
@@ -152,7 +149,7 @@ module _ (sound : Type 0) (h : ReceiverHeld) where
   pub caught_none : is_redone h.half.note h.half.land.header ≡ false → HasCaughtUp sound sound h h
   caught_none off = record {
     stays = stays_same sound h;
-    session = record { number = refl; role = refl; reverse = refl; applied = refl; mark = mark_out (is_redone h.half.note h.half.land.header) (is_mark (entry_kind h.half.land.header.kind)) h.half.applied h.half.note.mark off };
+    session = record { number = refl; role = refl; reverse = refl; applied = refl; mark = mark_out (is_redone h.half.note h.half.land.header) (is_mark (entry_kind h.half.land.header.kind)) h.half.applied h.half.note.mark off; slots = λ slot low free. refl };
     spared = none_failed h;
     room = λ is. absurd (off_on (is_redone h.half.note h.half.land.header) off is);
     done = λ st kept. sym (cond_off (is_redone h.half.note h.half.land.header) (redone (lies_of kept h) h.half.land.header h.half.land.disk.image) (lies_of kept h) off);
@@ -265,7 +262,7 @@ module _ (sound : Type 0) (below : BelowSeen) (h : ReceiverHalf) (over : IsOver 
     pub caught_blocks : (sound_new : Type 0) → (sound → sound_new) → HasCaughtUp sound sound_new (held below h) (held new h)
     caught_blocks sound_new sounds = record {
       stays = stays_written new bytes (Ok u) landed w;
-      session = record { number = refl; role = refl; reverse = refl; applied = refl; mark = mark_off (is_redone h.note h.land.header) (is_mark (entry_kind h.land.header.kind)) h.applied h.note.mark off };
+      session = record { number = refl; role = refl; reverse = refl; applied = refl; mark = mark_off (is_redone h.note h.land.header) (is_mark (entry_kind h.land.header.kind)) h.applied h.note.mark off; slots = λ slot low free. refl };
       spared = record { faults = w.cause.same; armed = w.still_armed; sets = λ set. spared_same (set_at h.sets set).bits.disk; land = spared_same h.land.disk };
       room = λ on. room;
       done = λ st kept. done_blocks st kept ∙ sym (caught_is st kept);
@@ -288,7 +285,7 @@ module _ (sound : Type 0) (below : BelowSeen) (h : ReceiverHalf) (over : IsOver 
   pub caught_empty : (sound_new : Type 0) → is_mark (entry_kind h.land.header.kind) ≡ false → h.land.header.len ≡ 0 → HasCaughtUp sound sound_new (held below h) (held below h)
   caught_empty sound_new off empty = record {
     stays = stays_same sound (held below h);
-    session = record { number = refl; role = refl; reverse = refl; applied = refl; mark = mark_off (is_redone h.note h.land.header) (is_mark (entry_kind h.land.header.kind)) h.applied h.note.mark off };
+    session = record { number = refl; role = refl; reverse = refl; applied = refl; mark = mark_off (is_redone h.note h.land.header) (is_mark (entry_kind h.land.header.kind)) h.applied h.note.mark off; slots = λ slot low free. refl };
     spared = none_failed (held below h);
     room = λ on. room;
     done = λ st kept. absurd (none (len_some st off));
@@ -382,7 +379,7 @@ module _ (sound : Type 0) (below : BelowSeen) (h : ReceiverHalf) (over : IsOver 
         labels = λ set. (c.part set).label;
         below = below_noted sound below new p.bytes (Ok u) p.sets;
       };
-      session = record { number = refl; role = refl; reverse = refl; applied = refl; mark = mark_on (is_redone h.note h.land.header) (is_mark (entry_kind h.land.header.kind)) h.applied h.note.mark is on };
+      session = record { number = refl; role = refl; reverse = refl; applied = refl; mark = mark_on (is_redone h.note h.land.header) (is_mark (entry_kind h.land.header.kind)) h.applied h.note.mark is on; slots = full.others };
       spared = record { faults = p.sets.cause.same; armed = p.sets.still_armed; sets = λ set. (c.done set).spared; land = spared_same h.land.disk };
       room = λ also. room;
       done = λ st kept. done_mark st kept ∙ sym (caught_is st kept);

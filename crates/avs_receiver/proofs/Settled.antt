@@ -1,29 +1,29 @@
 -- A receiver that a load has found: it catches up, its bits are wiped, and it leaves.
-use Rattle.std.proofs.Common.{◌≡◌, ◌⊎◌, inl, inr, ℕ, ◌<◌, ◌≤◌, Bool, true, false, cond, List, length, map, get_or, IsOk, Result, Ok, Err, ◌∙◌, sym, refl, ap, subst, arith}
+use Rattle.std.proofs.Common.{◌≡◌, inl, inr, ℕ, Bool, true, false, cond, List, Ok, Err, ◌∙◌, sym, refl, ap, subst, arith, length}
 use Rattle.std.proofs.lemmas.Bool.{cases_Bool}
-use Rattle.avs_dev.specs.Devices.{NoneFell, OneRose, UsesOneTear}
+use Rattle.avs_dev.specs.Devices.{OneRose, UsesOneTear}
 use Rattle.avs_dev.specs.Below.{BelowSeen, IsToldAt}
 use Rattle.avs_dev.specs.declared.back.Why.{Why}
 use Rattle.avs_dev.specs.declared.back.Why.TheVariants.{Fault}
 use Rattle.avs_dev.proofs.Going.{fails_then, lasts_then, spared_same, spared_then}
 use Rattle.avs_code.specs.declared.land_headers.LandHeader.{LandHeader}
-use Rattle.avs_mirrors.specs.Due.{Due, nothing_due}
+use Rattle.avs_mirrors.specs.Due.{nothing_due}
 use Rattle.avs_mirrors.specs.Half.{HalfState, Sets, is_marked, left_receiver}
 use Rattle.avs_halves.specs.SetBits.{SetBits, due_of, set_at}
 use Rattle.avs_halves.specs.Changing.{ChangesSets, every}
 use Rattle.avs_halves.specs.Found.{due_found}
-use Rattle.avs_halves.specs.Going.{BelowStays}
+use Rattle.avs_halves.specs.Going.{BelowStays, SetStays}
 use Rattle.avs_halves.specs.Over.{IsOver}
-use Rattle.avs_halves.proofs.Staying.{below_same, none_fell, sets_stay}
+use Rattle.avs_halves.proofs.Staying.{below_same, sets_stay}
 use Rattle.avs_receiver.specs.Held.{ReceiverHalf, ReceiverHeld, held, parts_of}
-use Rattle.avs_receiver.specs.Meaning.{Finds, IsLandedFor, IsReceiverInStep, found_by, half_by, is_of, is_redone, lies_on, receiver_of, redone, slots_of, state_in, vols_of}
+use Rattle.avs_receiver.specs.Meaning.{Finds, IsLandedFor, IsReceiverInStep, half_by, is_of, is_redone, lies_on, receiver_of, redone, slots_of, state_in, vols_of}
 use Rattle.avs_receiver.specs.Going.{NoneFailed, OneFailed, ReceiverStays, SessionStays}
 use Rattle.avs_receiver.specs.Leaving.{Leaves}
-use Rattle.avs_receiver.specs.CatchingUp.{HasCaughtUp, HasSettled, IsCaughtUp, IsStoppedSo, WipesLeft, caught_up, found_of, lies_of}
+use Rattle.avs_receiver.specs.CatchingUp.{HasCaughtUp, HasSettled, IsCaughtUp, IsStoppedSo, WipesLeft, lies_of}
 use Rattle.avs_receiver.proofs.Meanings.{fits_parts, lies_is, part_slots, part_vols, stored_is}
 use Rattle.avs_receiver.proofs.Leavings.{none_failed, session_same, session_sets, stays_same}
 use Rattle.avs_receiver.proofs.Landings.{on_true}
-use Rattle.avs_receiver.proofs.Writings.{same_slots, same_vols}
+use Rattle.avs_halves.proofs.Writings.{same_slots, same_vols}
 use Rattle.avs_receiver.proofs.Stopped.{not_err}
 use Rattle.avs_receiver.proofs.Happened.{wiped_are}
 use Rattle.avs_receiver.proofs.Redone.{cond_off, found_is, off_on}
@@ -63,8 +63,16 @@ none_then a b c x y = record {
   land = spared_then a.half.land.disk b.half.land.disk c.half.land.disk x.land y.land;
 }
 
-pub session_then : (a b c : ReceiverHalf) (applied mark : ℕ) → SessionStays a b applied mark → SessionStays b c b.applied b.note.mark → SessionStays a c applied mark
-session_then a b c applied mark x y = record { number = y.number ∙ x.number; role = y.role ∙ x.role; reverse = y.reverse ∙ x.reverse; applied = y.applied ∙ x.applied; mark = y.mark ∙ x.mark }
+pub session_then : (a b c : ReceiverHalf) (applied mark : ℕ) → length b.sets ≡ length a.sets → ((set : ℕ) → SetStays (set_at a.sets set) (set_at b.sets set))
+    → SessionStays a b applied mark → SessionStays b c b.applied b.note.mark → SessionStays a c applied mark
+session_then a b c applied mark count sets x y = record {
+  number = y.number ∙ x.number;
+  role = y.role ∙ x.role;
+  reverse = y.reverse ∙ x.reverse;
+  applied = y.applied ∙ x.applied;
+  mark = y.mark ∙ x.mark;
+  slots = λ slot low free. y.slots slot low (λ set there is. free set (omega (arith, there, count)) (sym (sets set).slot ∙ is)) ∙ x.slots slot low free;
+}
 
 -- none has failed, and then one does
 pub one_then : (sound : Type 0) (a b c : ReceiverHeld) → ReceiverStays sound a b → NoneFailed a b → OneFailed b c → OneFailed a c
@@ -220,7 +228,8 @@ module _ (sound : Type 0) (below : BelowSeen) (h : ReceiverHalf) (over : IsOver 
 pub settled : {E : Type 0} (first mid last : Type 0) (old caught wiped new : ReceiverHeld) (u : Unit {0}) → HasCaughtUp first mid old caught → (first → mid) → Wiped mid caught wiped → Leaves {E = E} mid last wiped (Ok u) new → HasSettled first last old new
 settled first mid last old caught wiped new u a sounds w l = record {
   stays = stays_then first mid sounds old caught new a.stays (stays_then mid mid (λ s. s) caught wiped new w.stays l.stays);
-  session = session_then old.half caught.half new.half _ _ a.session (session_then caught.half wiped.half new.half caught.half.applied caught.half.note.mark w.session l.session);
+  session = session_then old.half caught.half new.half _ _ a.stays.count a.stays.sets a.session
+      (session_then caught.half wiped.half new.half caught.half.applied caught.half.note.mark w.stays.count w.stays.sets w.session l.session);
   spared = none_then old caught new a.spared (none_then caught wiped new w.spared l.spared);
   room = a.room;
   done = λ st kept. l.done (w.step (a.step st)).memory.sound kept ∙ ap left_receiver (w.lies (a.step st) kept ∙ a.done st kept);

@@ -1,5 +1,5 @@
 -- A stopped write of the receiver's own host.
-use Rattle.std.proofs.Common.{◌≡◌, ◌⊎◌, inl, inr, ℕ, ◌^◌, ◌<◌, ◌≤◌, Bool, true, false, ◌&&◌, cond, List, [], length, map, get_or, Result, Ok, Err, is_some, ◌∙◌, sym, refl, ap, subst, arith}
+use Rattle.std.proofs.Common.{◌≡◌, ◌⊎◌, inl, inr, ℕ, ◌<◌, Bool, true, false, ◌&&◌, cond, List, [], length, map, get_or, Result, Ok, Err, is_some, ◌∙◌, sym, refl, ap, subst, arith}
 use Rattle.std.specs.Prelude.{nat_lt}
 use Rattle.std.proofs.Math.Path.{fun_ext}
 use Rattle.std.proofs.lemmas.List.{get_or_past}
@@ -28,7 +28,7 @@ use Rattle.avs_receiver.specs.Meaning.{IsReceiverInStep, contents_in, found_by, 
 use Rattle.avs_receiver.specs.Writing.{FindsPartNoted, FindsTorn, IsWriteStopped, write_of}
 use Rattle.avs_receiver.proofs.Meanings.{part_slots, part_vols, stored_is, fits_parts}
 use Rattle.avs_receiver.proofs.Leavings.{session_sets}
-use Rattle.avs_receiver.proofs.Writings.{due_one, same_slots, same_vols, with_same}
+use Rattle.avs_halves.proofs.Writings.{due_one, same_slots, same_vols, with_same}
 use Rattle.avs_receiver.proofs.Written.{away_again, away_is, away_unmarked, contents_at, due_noted, image_is, images_are, keys_are, may, told_at}
 
 -- ---- what is found of a half that was in no session

@@ -1,5 +1,5 @@
 -- What a write of the receiver's own host leaves.
-use Rattle.std.proofs.Common.{◌≡◌, ℕ, ◌+◌, ◌/◌, ◌<◌, Bool, true, false, ◌&&◌, not, cond, eqb, IsTrue, List, [], length, get_or, Result, Ok, Option, Some, is_some, ◌∙◌, sym, refl, ap, subst, arith}
+use Rattle.std.proofs.Common.{◌≡◌, ℕ, ◌+◌, ◌/◌, ◌<◌, Bool, true, false, ◌&&◌, not, cond, eqb, List, [], length, get_or, Result, Ok, Some, ◌∙◌, sym, refl, ap, subst, arith}
 use Rattle.std.specs.Prelude.{nat_lt}
 use Rattle.std.proofs.Math.ListN.{get_or-map}
 use Rattle.std.proofs.lemmas.List.{length-map}
@@ -27,7 +27,7 @@ use Rattle.avs_receiver.specs.Meaning.{IsReceiverInStep, contents_in, half_by, i
 use Rattle.avs_receiver.specs.Writing.{IsWritten, MayWrite, write_of}
 use Rattle.avs_receiver.proofs.Meanings.{fits_stays}
 use Rattle.avs_receiver.proofs.Leavings.{session_sets}
-use Rattle.avs_receiver.proofs.Writings.{all_noted, images_one, same_slots, same_vols, touched_are, with_same}
+use Rattle.avs_halves.proofs.Writings.{all_noted, images_one, same_slots, same_vols, touched_are, with_same}
 
 -- ---- a half in no session
 

@@ -6,7 +6,6 @@ use Rattle.avs_model.specs.declared.answer.Refusal.{Refusal}
 use Rattle.avs_model.specs.declared.answer.Refusal.TheVariants as refusal
 use Rattle.avs_mirrors.specs.Half.{Receiver, Receiving, Sets, asked, left_receiver}
 use Rattle.avs_sync.specs.declared.note.Note.{Note}
-use Rattle.avs_halves.specs.Going.{BelowFailed}
 use Rattle.avs_receiver.specs.Held.{ReceiverHalf, ReceiverHeld, parts_of}
 use Rattle.avs_receiver.specs.Meaning.{FindsEither, IsReceiverInStep, StandsFor, receiver_of}
 use Rattle.avs_receiver.specs.Going.{NoneFailed, ReceiverStays, BelowAloneFailed}

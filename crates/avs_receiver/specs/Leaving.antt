@@ -1,8 +1,8 @@
 -- A receiver leaves its session.
-use Rattle.std.specs.Prelude.{◌≡◌, Result, IsOk, OnOk, OnErr}
+use Rattle.std.specs.Prelude.{◌≡◌, Result, OnOk, OnErr}
 use Rattle.avs_mirrors.specs.Half.{Logging, Sets, left_receiver}
 use Rattle.avs_sync.specs.declared.note.Note.{Note}
-use Rattle.avs_halves.specs.Going.{BelowFailed, DidNothing}
+use Rattle.avs_halves.specs.Going.{DidNothing}
 use Rattle.avs_receiver.specs.Held.{ReceiverHeld, parts_of}
 use Rattle.avs_receiver.specs.Meaning.{Finds, IsReceiverInStep, StandsFor, receiver_of, state_in}
 use Rattle.avs_receiver.specs.Going.{NoneFailed, ReceiverStays, BelowAloneFailed, SessionStays}

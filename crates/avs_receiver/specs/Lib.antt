@@ -14,3 +14,4 @@ pub mod CatchingUp
 pub mod Loading
 pub mod Disks
 pub mod Lending
+pub mod Restoring

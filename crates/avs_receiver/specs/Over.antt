@@ -1,5 +1,5 @@
 -- What the memory of a receiver keeps.
-use Rattle.std.specs.Prelude.{ℕ, ◌≤◌, ◌^◌}
+use Rattle.std.specs.Prelude.{◌≤◌, ◌^◌}
 use Rattle.avs_sync.specs.Note.{NoteKeeps}
 use Rattle.avs_receiver.specs.Held.{ReceiverHalf}
 

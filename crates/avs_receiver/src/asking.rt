@@ -1,5 +1,5 @@
 // How a receiver is asked into a session.
-ghost use Rattle.std.specs.Prelude.{◌≡◌, ◌≤◌, ◌^◌};
+ghost use Rattle.std.specs.Prelude.{◌≡◌, ◌<◌, ◌≤◌, ◌^◌};
 ghost use Rattle.avs_receiver.specs.Held.{seen_of};
 ghost use Rattle.avs_sync.specs.Note.{NoteKeeps};
 ghost use Rattle.avs_receiver.specs.Asking.{Asks, IsAskedNote, is_reverse};
@@ -45,6 +45,7 @@ impl<D: Disk> Half<D> {
     // The note of a session that it is asked into: its sets have no contents from then on.
     fn asked_note(&self, session: u64) -> Note
         requires session { session ≤ 2 ^ 62 }
+        requires later { self.now.note.session < session }
         requires slots { HaveSlots self.now.sets }
         ensures note { IsAskedNote self.now session result }
         ensures keeps { NoteKeeps result }

@@ -11,6 +11,7 @@ mod loading;
 mod parts;
 mod receiver;
 mod redoing;
+mod restoring;
 mod slots;
 mod telling;
 mod writing;

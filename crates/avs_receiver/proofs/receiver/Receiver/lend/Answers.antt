@@ -1,4 +1,4 @@
-use Rattle.avs_receiver.proofs.Lent.{is_lent, over_kept}
+use Rattle.avs_receiver.proofs.Lent.{is_lent}
 use Rattle.avs_receiver.proofs.receiver.Receiver.lend.Goals as goal
 
 pub returns-clause-lent : goal.returns-clause-lent

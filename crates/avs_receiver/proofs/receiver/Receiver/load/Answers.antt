@@ -1,4 +1,4 @@
-use Rattle.std.proofs.Common.{◌≡◌, ◌∙◌, inl, inr, true, false, refl, sym, ap, subst}
+use Rattle.std.proofs.Common.{◌∙◌, inl, inr, true, false, refl, sym, ap, subst}
 use Rattle.std.proofs.lemmas.Result.{IfErr-weaker, IfOk-weaker, err_from_is_err_and}
 use Rattle.avs_halves.specs.Over.{IsOver}
 use Rattle.avs_halves.proofs.Lying.{loaded_over}
