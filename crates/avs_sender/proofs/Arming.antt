@@ -1,20 +1,18 @@
 -- A tear is armed on a disk of a sender.
-use Rattle.std.proofs.Common.{◌≡◌, inl, inr, ℕ, ◌<◌, ◌≤◌, ◌^◌, Bool, true, false, ◌&&◌, cond, eqb, List, [], length, map, set, get_or, None, Some, length-set, ◌∙◌, sym, refl, ap, subst, arith}
+use Rattle.std.proofs.Common.{◌≡◌, ℕ, ◌<◌, ◌≤◌, ◌^◌, Bool, true, false, ◌&&◌, cond, eqb, List, [], length, set, get_or, None, Some, length-set, ◌∙◌, sym, refl, ap, subst, arith}
 use Rattle.std.specs.Prelude.{nat_lt}
-use Rattle.std.proofs.Math.Path.{fun_ext}
 use Rattle.std.proofs.Math.ListN.{get_or-map}
 use Rattle.std.proofs.Math.Seq.{map-set_same}
 use Rattle.avs_seg.specs.Segment.{seg_count}
 use Rattle.avs_dev.specs.Seen.{Seen, with_tear}
 use Rattle.avs_dev.specs.declared.disk.Tear.{Tear}
 use Rattle.avs_dev.specs.Below.{BelowSeen}
-use Rattle.avs_mirrors.specs.Half.{is_session}
 use Rattle.avs_halves.specs.SetBits.{SetBits, disk_at, has_bit, no_set, set_at}
 use Rattle.avs_halves.specs.Changing.{ArmsSet, with_disk}
 use Rattle.avs_halves.specs.Found.{is_filled}
 use Rattle.avs_halves.specs.Over.{IsOver}
 use Rattle.avs_sender.specs.Held.{SenderHalf, held}
-use Rattle.avs_sender.specs.Kept.{IsDueIn, IsKept}
+use Rattle.avs_sender.specs.Kept.{IsKept}
 use Rattle.avs_sender.specs.Disks.{ArmsHalf, disk_of}
 use Rattle.avs_sender.specs.Meaning.{freeing_place, places_at, sender_of}
 

@@ -1,5 +1,5 @@
 -- A sender begins a session.
-use Rattle.std.proofs.Common.{◌≡◌, ◌⊎◌, inl, inr, ℕ, ◌+◌, ◌<◌, ◌≤◌, ◌^◌, Bool, true, false, ◌&&◌, not, cond, List, [], length, map, get_or, replicate, All, Result, Ok, Err, Option, None, Some, ◌∙◌, sym, refl, ap, subst, arith}
+use Rattle.std.proofs.Common.{◌≡◌, inl, inr, ℕ, ◌<◌, ◌≤◌, Bool, true, false, ◌&&◌, not, cond, List, [], length, map, get_or, replicate, All, Result, Ok, Err, None, Some, ◌∙◌, sym, refl, ap, subst, arith}
 use Rattle.std.specs.Prelude.{nat_lt}
 use Rattle.std.proofs.Math.Path.{fun_ext}
 use Rattle.std.proofs.lemmas.Bool.{cases_lt}
@@ -9,28 +9,26 @@ use Rattle.std.proofs.lemmas.List.{get_or-map as within}
 use Rattle.std.proofs.lemmas.List.Elements.{All-from_get_or, All-replicate}
 use Rattle.avs_refs.specs.Places.{IsAbove, IsDrained, Places, greatest_at, is_among, untouched}
 use Rattle.avs_bits.specs.BitSet.{set_of}
-use Rattle.avs_mirrors.specs.Due.{Keys, noted, zeros}
-use Rattle.avs_mirrors.specs.Half.{Sender, Syncing, begun_with, is_session, no_sets}
-use Rattle.avs_seg.specs.Image.{Image}
+use Rattle.avs_mirrors.specs.Due.{noted, zeros}
+use Rattle.avs_mirrors.specs.Half.{Sender, begun_with, is_session}
 use Rattle.avs_dev.specs.Below.{BelowSeen}
-use Rattle.avs_dev.proofs.Going.{spared_same}
 use Rattle.avs_sync.specs.Note.{IsNote, NoteKeeps}
 use Rattle.avs_sync.specs.Session.{begin}
 use Rattle.avs_sync.specs.declared.note.Note.{Note}
 use Rattle.avs_sync.specs.declared.session.Session.{Session}
-use Rattle.avs_halves.specs.SetBits.{AreInStep, SetBits, has_bit, no_set, part_of, set_at}
+use Rattle.avs_halves.specs.SetBits.{SetBits, has_bit, no_set, part_of, set_at}
 use Rattle.avs_halves.specs.Changing.{ChangesSets}
 use Rattle.avs_halves.specs.Writing.{PutsNote}
-use Rattle.avs_sender.specs.Held.{SenderHalf, SenderHeld, SetPlaces, held, parts_of}
-use Rattle.avs_sender.specs.Kept.{ArePlacesIn, ArePlacesOf, HoldsAbove, IsDueIn, IsInSession, IsKept}
+use Rattle.avs_sender.specs.Held.{SenderHalf, SetPlaces, held, parts_of}
+use Rattle.avs_sender.specs.Kept.{ArePlacesIn, ArePlacesOf, HoldsAbove, IsDueIn, IsKept}
 use Rattle.avs_halves.specs.Found.{due_found, is_filled}
 use Rattle.avs_halves.specs.Going.{BelowStays}
 use Rattle.avs_halves.specs.Over.{IsOver}
 use Rattle.avs_halves.proofs.Staying.{below_noted, below_same, sets_stay, told_note}
-use Rattle.avs_sender.specs.Meaning.{IsSenderInStep, due_of, found_again, found_by, found_of, freeing_place, no_places, places_at, sender_of, waits}
-use Rattle.avs_sender.specs.Going.{NoneFailed, SenderStays}
+use Rattle.avs_sender.specs.Meaning.{IsSenderInStep, due_of, found_by, no_places, sender_of, waits}
+use Rattle.avs_sender.specs.Going.{SenderStays}
 use Rattle.avs_sender.specs.Places.{WaitsForBits, no_places_for, places_for, places_in}
-use Rattle.avs_sender.specs.Beginning.{Beginning, Enters, FindsBegun, IsBeginStopped, IsBegun, MayBegin, begun_note, half_begun, is_reverse}
+use Rattle.avs_sender.specs.Beginning.{Beginning, IsBeginStopped, IsBegun, MayBegin, begun_note, half_begun, is_reverse}
 use Rattle.avs_sender.proofs.Meanings.{again_is, bits_due}
 use Rattle.avs_sender.proofs.Arming.{with_sets}
 use Rattle.avs_sender.proofs.Noted.{AreInside, all_due, found_all, found_changed, found_some, kept_changed, some_keys, some_within, step_changed, zeros_twice, zero_due}
@@ -173,7 +171,7 @@ module _ (sound sound_new : Type 0) (below : BelowSeen) (h : SenderHalf) (b : Be
   in_bits e c = record {
     may = may;
     stays = sender_changes below (Err e) c (below_same sound below);
-    failed = inr c.failed;
+    failed = inr (record { failed = c.failed; faults = refl; armed = refl });
     stopped = λ st. inl (record {
       part = some_keys b.keys below below h sets (Err e) c st.bits;
       within = some_within b.keys below below h sets (Err e) c st.bits;
@@ -192,7 +190,7 @@ module _ (sound sound_new : Type 0) (below : BelowSeen) (h : SenderHalf) (b : Be
     at_note e p = record {
       may = may;
       stays = sender_changes new (Ok x) c (below_noted sound below new p.bytes (Err e) p.sets);
-      failed = inl (record { rose = p.sets.cause.failed; spent = p.sets.spent });
+      failed = inl (record { failed = record { rose = p.sets.cause.failed; spent = p.sets.spent }; sets = λ set. (c.done set).spared });
       stopped = λ st. elim (p.sets.left (told_note below below.note st.stored)) [
         | inl same ↦ inl (record {
           part = b.keys;
@@ -240,6 +238,7 @@ module _ (sound sound_new : Type 0) (below : BelowSeen) (h : SenderHalf) (b : Be
         spared = record { faults = p.sets.cause.same; armed = p.sets.still_armed; sets = λ set. (c.done set).spared };
         done = λ s. begun_done (p.sets.images s);
         session = refl;
+        note = refl;
         step = λ st. record {
           sound = sounds st.sound;
           stored = p.sets.stored (told_note below below.note st.stored) ∙ ap Some (sym p.sets.done);

@@ -14,7 +14,7 @@ use Rattle.avs_sender.specs.Waits.{waits_at}
 use Rattle.avs_sender.specs.SenderView.{set_places}
 use Rattle.avs_sender.specs.declared.tracked.Tracked.{Tracked}
 use Rattle.avs_sender.specs.Freeing.{AreSizedAs, CanFree, FreesBelow, FreesEach, FreesPlaces, SizedAs, freed_keys, freed_segs, set_places_at}
-use Rattle.avs_sender.proofs.Changes.{changes_none, changes_same, changes_then, changes_wider, changes_ok}
+use Rattle.avs_halves.proofs.Following.{changes_none, changes_same, changes_then, changes_wider, changes_ok}
 
 -- ---- over plain values
 

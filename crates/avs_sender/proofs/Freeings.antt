@@ -12,7 +12,7 @@ use Rattle.avs_halves.specs.Changing.{ChangesSets, keys_of, run_of}
 use Rattle.avs_sender.specs.Held.{SetPlaces}
 use Rattle.avs_sender.specs.Waits.{waits_at}
 use Rattle.avs_sender.specs.Freeing.{FreesPlaces, FreesSoFar, SizedAs, freed_segs, given_segs}
-use Rattle.avs_sender.proofs.Changes.{changes_none, changes_same, changes_then, changes_wider, changes_ok}
+use Rattle.avs_halves.proofs.Following.{changes_none, changes_same, changes_then, changes_wider, changes_ok}
 
 -- ---- one segment, over plain values: t whether it is one of the set, f whether it is freed, and its place
 

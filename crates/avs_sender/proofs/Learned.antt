@@ -34,7 +34,7 @@ hears_if Receiving on = on
 hears_if Replicating on = on
 hears_if Queuing on = on
 
-sends_if : (n : Note) (s : Session) → IsSessionOf n s → is_session s.state ≡ true → s.sender ≡ true
+pub sends_if : (n : Note) (s : Session) → IsSessionOf n s → is_session s.state ≡ true → s.sender ≡ true
 sends_if n s is on = is.sender ∙ ap (λ r. not (Rattle.avs_mirrors.specs.Half.is_receiver r)) (is.role on)
 
 -- it may learn a place that was given

@@ -1,20 +1,15 @@
 -- A sender leaves by one note.
-use Rattle.std.proofs.Common.{◌≡◌, ◌⊎◌, inl, inr, ℕ, ◌≤◌, ◌^◌, Bool, true, false, List, [], cond, length, get_or, Result, Ok, Err, None, Some, ◌∙◌, sym, refl, ap, subst, arith}
+use Rattle.std.proofs.Common.{◌≡◌, ◌⊎◌, inl, inr, ℕ, ◌≤◌, ◌^◌, Bool, true, false, List, cond, Result, Ok, Err, None, Some, ◌∙◌, sym, refl, ap, subst, arith}
 use Rattle.std.proofs.Math.Path.{fun_ext}
 use Rattle.std.specs.Prelude.{nat_le}
-use Rattle.avs_seg.specs.Image.{Image}
-use Rattle.avs_model.specs.declared.half.HalfRole.{HalfRole}
-use Rattle.avs_model.specs.declared.half.HalfRole.TheVariants.{Lone, Sender, Receiver}
-use Rattle.avs_dev.specs.Devices.{NoneFell}
-use Rattle.avs_dev.specs.Below.{BelowSeen, SetsNote}
+use Rattle.avs_dev.specs.Below.{BelowSeen}
 use Rattle.avs_dev.proofs.Going.{lasts_same, spared_same}
 use Rattle.avs_refs.specs.Places.{greatest_at}
 use Rattle.avs_mqueue.specs.Queue.{Queue}
 use Rattle.avs_model.specs.declared.half.State.{State}
 use Rattle.avs_model.specs.declared.half.State.TheVariants.{Logging, Syncing, Receiving, Replicating, Queuing}
 use Rattle.avs_mirrors.specs.Half.{is_session, left_sender}
-use Rattle.avs_sync.specs.Note.{IsNote, NoteKeeps, note_at, may_be}
-use Rattle.avs_sync.specs.Session.{left}
+use Rattle.avs_sync.specs.Note.{IsNote, NoteKeeps, note_at}
 use Rattle.avs_sync.specs.declared.note.Note.{Note}
 use Rattle.avs_halves.specs.SetBits.{has_bit, set_at}
 use Rattle.avs_halves.specs.Writing.{PutsNote}
@@ -57,6 +52,9 @@ no_session Receiving on is = absurd (cc)
 no_session Replicating on is = absurd (cc)
 no_session Queuing on is = absurd (cc)
 
+never : (b : Bool) → b ≡ false → b ≡ true → ⊥
+never b off on = cc
+
 -- a half in logging has left
 left_already : (below : BelowSeen) (h : SenderHalf) → h.session.state ≡ Logging → sender_of (held below h) ≡ left_sender (sender_of (held below h))
 left_already below h logging = λ i. record (sender_of (held below h)) { state = logging i; due = (due ∙ sym (zeros_are h)) i }
@@ -70,7 +68,7 @@ leaves_nothing sound below h u off = record {
   spared = none_failed (held below h);
   failed = tt;
   done = λ s. left_already below h (logging_is h.session.state off);
-  session = λ i. record h.session { state = logging_is h.session.state off i };
+  half = record { session = λ i. record h.session { state = logging_is h.session.state off i }; note = λ on. absurd (never (is_session h.session.state) off on) };
   step = λ st. st;
   stopped = λ st. tt;
   idle = λ is. record { answer = refl; kept = refl };
@@ -81,10 +79,10 @@ leaves_nothing sound below h u off = record {
 left_done : (below new : BelowSeen) (h : SenderHalf) (mark : ℕ) (q : Queue) → new.images ≡ below.images → sender_of (held new (half_left h mark q)) ≡ left_sender (sender_of (held below h))
 left_done below new h mark q images = λ i. record (left_sender (sender_of (held below h))) { images = same_images h.sets new.images below.images images i; due = sym (zeros_are h) i }
 
-pub leaves_ok : {T E : Type 0} (sound sound_new : Type 0) (below new : BelowSeen) (h : SenderHalf) (mark : ℕ) (q : Queue) (u : T) → is_session h.session.state ≡ true → q.limits ≡ h.queue.limits
-    → PutsNote {E = E} sound below (record h.note { state = Logging; mark = mark }) (Ok u) new → (sound → sound_new)
-    → Leaves {E = E} sound sound_new (held below h) (Ok u) (held new (half_left h mark q))
-leaves_ok sound sound_new below new h mark q u on limits p sounds = record {
+pub leaves_ok : {T E : Type 0} (sound sound_new : Type 0) (below new : BelowSeen) (h : SenderHalf) (q : Queue) (u : T) → is_session h.session.state ≡ true → q.limits ≡ h.queue.limits
+    → PutsNote {E = E} sound below (record h.note { state = Logging; mark = known_mark h.session }) (Ok u) new → (sound → sound_new)
+    → Leaves {E = E} sound sound_new (held below h) (Ok u) (held new (half_left h (known_mark h.session) q))
+leaves_ok sound sound_new below new h q u on limits p sounds = record {
   stays = record {
     host = refl;
     land = refl;
@@ -95,12 +93,12 @@ leaves_ok sound sound_new below new h mark q u on limits p sounds = record {
   };
   spared = record { faults = p.sets.cause.same; armed = p.sets.still_armed; sets = λ set. spared_same (set_at h.sets set).bits.disk };
   failed = tt;
-  done = λ s. left_done below new h mark q (p.sets.images s);
-  session = refl;
+  done = λ s. left_done below new h (known_mark h.session) q (p.sets.images s);
+  half = record { session = refl; note = λ is. refl };
   step = λ st. record {
     sound = sounds st.sound;
     stored = p.sets.stored (told_note below below.note st.stored) ∙ ap Some (sym p.sets.done);
-    note = subst (λ (bytes : List ℕ). IsNote bytes (record h.note { state = Logging; mark = mark })) (sym p.sets.done) p.is;
+    note = subst (λ (bytes : List ℕ). IsNote bytes (record h.note { state = Logging; mark = known_mark h.session })) (sym p.sets.done) p.is;
     volumes = λ set there. (below_noted sound below new p.bytes (Ok u) p.sets).told st.sound (set_at h.sets set).vol (st.volumes set there);
     bits = st.bits;
   };
@@ -122,9 +120,9 @@ leaves_err sound sound_new below new h mark e on number over p = record {
     below = below_noted sound below new p.bytes (Err e) p.sets;
   };
   spared = tt;
-  failed = record { rose = p.sets.cause.failed; spent = p.sets.spent };
+  failed = record { failed = record { rose = p.sets.cause.failed; spent = p.sets.spent }; sets = λ set. spared_same (set_at h.sets set).bits.disk };
   done = λ s. tt;
-  session = tt;
+  half = tt;
   step = λ st. tt;
   stopped = λ st. stopped st (p.sets.left (told_note below below.note st.stored));
   idle = λ is. absurd (no_session h.session.state on is);

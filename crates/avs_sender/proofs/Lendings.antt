@@ -1,5 +1,5 @@
 -- What an errand leaves of a sender that lends what lies below it.
-use Rattle.std.proofs.Common.{◌≡◌, ℕ, ◌^◌, ◌<◌, ◌≤◌, Bool, true, false, ◌&&◌, cond, List, [], length, map, get_or, Result, Ok, Err, is_ok, None, Some, ◌∙◌, sym, refl, ap, subst, arith}
+use Rattle.std.proofs.Common.{◌≡◌, ℕ, ◌^◌, ◌<◌, ◌≤◌, Bool, true, false, ◌&&◌, cond, List, [], length, map, get_or, Result, Ok, Err, is_ok, None, Some, ◌∙◌, sym, refl, ap, subst}
 use Rattle.std.specs.Prelude.{nat_lt}
 use Rattle.std.specs.Option.{option_map_or}
 use Rattle.std.proofs.Math.Path.{fun_ext}
@@ -8,12 +8,11 @@ use Rattle.avs_seg.specs.Segment.{seg_count}
 use Rattle.avs_dev.specs.Below.{BelowSeen}
 use Rattle.avs_bits.specs.Bit.{disk_bit}
 use Rattle.avs_bits.specs.BitSet.{place}
-use Rattle.avs_mirrors.specs.Due.{Due}
 use Rattle.avs_mirrors.specs.Entries.{Images}
 use Rattle.avs_sync.specs.Note.{IsNote, note_at}
 use Rattle.avs_sync.specs.Parts.{MirrorSet}
 use Rattle.avs_sync.specs.declared.note.Note.{Note}
-use Rattle.avs_halves.specs.SetBits.{SetBits, no_part, part_of, set_at}
+use Rattle.avs_halves.specs.SetBits.{no_part, part_of, set_at}
 use Rattle.avs_halves.specs.Found.{due_found, stored_bytes}
 use Rattle.avs_halves.specs.Over.{IsOver}
 use Rattle.avs_halves.proofs.Lying.{below_is, part_is, there_is}

@@ -1,5 +1,4 @@
 pub mod Meanings
-pub mod Changes
 pub mod Leavings
 pub mod Loadings
 pub mod Askings
@@ -16,3 +15,8 @@ pub mod Noted
 pub mod Notings
 pub mod Trackings
 pub mod Beginnings
+pub mod Placed
+pub mod PlacedWrites
+pub mod Admittings
+pub mod PlacedCopies
+pub mod Copyings

@@ -1,23 +1,18 @@
 -- A sender is found on its parts.
-use Rattle.std.proofs.Common.{◌≡◌, inl, inr, ℕ, ◌^◌, ◌<◌, ◌≤◌, false, List, length, map, get_or, ◌∙◌, sym, refl, ap, subst, arith}
+use Rattle.std.proofs.Common.{◌≡◌, inl, inr, ℕ, ◌<◌, false, List, length, get_or, ◌∙◌, sym, refl, ap, subst, arith}
 use Rattle.std.proofs.lemmas.List.{length-map, length-replicate, get_or_past}
 use Rattle.std.proofs.lemmas.List.{get_or-map as within}
-use Rattle.std.proofs.lemmas.List.Elements.{All-get_or}
-use Rattle.std.proofs.Math.ListN.{get_or-map}
 use Rattle.std.proofs.lemmas.Bool.{cases_lt}
-use Rattle.avs_seg.specs.Segment.{seg_count}
 use Rattle.avs_dev.specs.Seen.{IsTold}
-use Rattle.avs_dev.specs.Below.{IsToldAt, size_of}
+use Rattle.avs_dev.specs.Below.{IsToldAt}
 use Rattle.avs_bits.specs.BitSet.{IsInStep}
 use Rattle.avs_mqueue.specs.Queue.{Queue}
-use Rattle.avs_model.specs.declared.event.Host.{Host}
 use Rattle.avs_model.specs.declared.entry.Limits.{Limits}
 use Rattle.avs_sync.specs.Note.{IsNote}
 use Rattle.avs_sync.specs.Parts.{MirrorSet}
 use Rattle.avs_sync.specs.declared.note.Note.{Note}
 use Rattle.avs_sync.proofs.Notes.{note_at-is}
-use Rattle.avs_dev.specs.Seen.{Seen}
-use Rattle.avs_halves.specs.SetBits.{SetBits, AreInStep, set_at, part_of, no_set, no_part, disk_at}
+use Rattle.avs_halves.specs.SetBits.{SetBits, AreInStep, set_at, part_of, no_set, disk_at}
 use Rattle.avs_halves.specs.Loading.{OpensSet}
 use Rattle.avs_halves.specs.Over.{IsOver}
 use Rattle.avs_halves.specs.Found.{part_at}
@@ -71,6 +66,7 @@ module _ (p : SenderParts) (limits : Limits) (n : Note) (sets : List SetBits) (p
   loads sound = record {
     parts_are = parts_found;
     limits_are = o.memory.queue_is.limits_are;
+    lie = over;
     note = is;
     session = refl;
     means = λ told. sym found_same

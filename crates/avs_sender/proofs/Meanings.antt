@@ -1,29 +1,22 @@
 -- What a sender stands for, and what is found of it.
-use Rattle.std.proofs.Common.{◌≡◌, inl, inr, ℕ, ◌<◌, ◌≤◌, Bool, true, false, ◌&&◌, cond, List, [], length, map, get_or, Option, None, Some, ◌∙◌, sym, refl, ap, arith}
+use Rattle.std.proofs.Common.{◌≡◌, ℕ, Bool, true, false, ◌&&◌, cond, List, [], length, map, get_or, Option, None, Some, ◌∙◌, sym, refl, ap}
 use Rattle.std.specs.Prelude.{nat_lt}
 use Rattle.std.specs.Option.{option_map_or}
 use Rattle.std.proofs.Math.Path.{fun_ext}
-use Rattle.std.proofs.Math.ListN.{get_or-map}
-use Rattle.std.proofs.lemmas.List.{length-map, get_or_past}
-use Rattle.std.proofs.lemmas.Bool.{cases_lt}
-use Rattle.std.proofs.lemmas.Bool.Decides.{nat_tests}
 use Rattle.avs_seg.specs.Image.{Image}
-use Rattle.avs_seg.specs.Segment.{seg_count}
-use Rattle.avs_dev.specs.Below.{BelowSeen, IsNoteTold}
-use Rattle.avs_bits.specs.Bit.{disk_bit}
-use Rattle.avs_bits.specs.BitSet.{set_of, place, IsOnDisk}
+use Rattle.avs_dev.specs.Below.{BelowSeen}
 use Rattle.avs_mirrors.specs.Entries.{Images}
 use Rattle.avs_mirrors.specs.Due.{Due, zero_of, zeros}
 use Rattle.avs_mirrors.specs.Half.{Logging, no_sets}
 use Rattle.avs_sync.specs.Note.{IsNote, note_at}
 use Rattle.avs_sync.specs.declared.note.Note.{Note}
 use Rattle.avs_sync.proofs.Notes.{note_at-is}
-use Rattle.avs_halves.specs.SetBits.{SetBits, AreInStep, set_at, disk_at, has_bit, part_of, no_set}
+use Rattle.avs_halves.specs.SetBits.{SetBits, AreInStep, set_at, has_bit, part_of}
 use Rattle.avs_halves.specs.Over.{IsOver}
 use Rattle.avs_halves.specs.Found.{due_found, is_filled, stored_bytes}
 use Rattle.avs_halves.proofs.Lying.{found_bit, part_is, there_is}
 use Rattle.avs_sender.specs.Held.{SenderHalf, held, parts_of}
-use Rattle.avs_sender.specs.Meaning.{freeing_place, places_at, segs_of, due_of, found_by, found_of, sender_of}
+use Rattle.avs_sender.specs.Meaning.{freeing_place, places_at, due_of, found_by, found_of, sender_of}
 
 -- ---- what is due of a half that left
 

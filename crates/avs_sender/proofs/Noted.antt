@@ -1,19 +1,17 @@
 -- A half whose bits have changed.
-use Rattle.std.proofs.Common.{◌≡◌, ◌⊎◌, inl, inr, ℕ, ◌<◌, ◌≤◌, ◌^◌, Bool, true, false, ◌&&◌, cond, List, [], length, map, get_or, Result, Ok, Option, None, Some, is_some, ◌∙◌, sym, refl, ap, subst, arith}
+use Rattle.std.proofs.Common.{◌≡◌, ◌⊎◌, inl, inr, ℕ, ◌<◌, Bool, true, false, ◌&&◌, cond, List, [], length, map, get_or, Result, Ok, Option, None, Some, is_some, ◌∙◌, sym, refl, ap, subst, arith}
 use Rattle.std.specs.Prelude.{nat_lt}
 use Rattle.std.proofs.Math.Path.{fun_ext}
 use Rattle.std.proofs.lemmas.List.{ext_get_or, length-map}
 use Rattle.std.proofs.lemmas.List.{get_or-map as within}
-use Rattle.avs_seg.specs.Image.{Image}
-use Rattle.avs_seg.specs.Segment.{seg_count}
 use Rattle.avs_model.specs.declared.half.HalfRole.{HalfRole}
 use Rattle.avs_dev.specs.Below.{BelowSeen}
 use Rattle.avs_bits.specs.BitSet.{HoldsPart, IsOnDisk, set_of}
 use Rattle.avs_mirrors.specs.Due.{Due, Keys, noted, zero_of, zeros}
-use Rattle.avs_mirrors.specs.Half.{Logging, is_session, no_sets, with_bits}
+use Rattle.avs_mirrors.specs.Half.{Logging, is_session, no_sets}
 use Rattle.avs_sync.specs.Parts.{MirrorSet}
 use Rattle.avs_sync.specs.declared.note.Note.{Note}
-use Rattle.avs_halves.specs.SetBits.{AreInStep, SetBits, has_bit, no_part, no_set, part_of, set_at}
+use Rattle.avs_halves.specs.SetBits.{AreInStep, SetBits, no_part, no_set, part_of, set_at}
 use Rattle.avs_halves.specs.Changing.{ChangesSets}
 use Rattle.avs_halves.specs.Found.{due_found, is_filled}
 use Rattle.avs_halves.specs.Over.{IsOver}

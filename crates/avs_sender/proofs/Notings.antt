@@ -1,82 +1,18 @@
 -- Bits of segments that are named in lists are set one after another.
-use Rattle.std.proofs.Common.{◌≡◌, ◌≢◌, ◌⊎◌, inl, inr, ℕ, suc, ◌+◌, ◌<◌, ◌≤◌, Bool, true, false, ◌&&◌, ◌||◌, eqb, List, [], ◌∷◌, length, take, drop, get_or, All, Result, Ok, Err, ◌∙◌, sym, refl, ap, subst, arith}
+use Rattle.std.proofs.Common.{◌≡◌, ◌≢◌, ◌⊎◌, inl, inr, ℕ, suc, ◌+◌, ◌<◌, ◌≤◌, Bool, true, false, ◌&&◌, ◌||◌, eqb, List, [], ◌∷◌, length, get_or, All, Result, Ok, Err, ◌∙◌, sym, refl, ap, subst, arith}
 use Rattle.std.specs.Prelude.{nat_lt}
-use Rattle.std.specs.List.{list_any}
-use Rattle.std.proofs.lemmas.Bool.{cases_eq, cases_lt, eqb-true, or_left}
+use Rattle.std.proofs.lemmas.Bool.{cases_eq, cases_lt, eqb-true}
 use Rattle.std.proofs.lemmas.Bool.Decides.{nat_tests}
-use Rattle.std.proofs.lemmas.List.{get_or_past, take-append-drop, take_all}
-use Rattle.std.proofs.lemmas.List.Elements.{All-get_or}
-use Rattle.std.proofs.lemmas.List.Folds.{list_any-append, list_any_more}
+use Rattle.std.proofs.lemmas.List.{get_or_past}
 use Rattle.avs_seg.specs.Image.{is_inside}
 use Rattle.avs_mirrors.specs.Due.{Keys}
 use Rattle.avs_halves.specs.SetBits.{SetBits, set_at}
-use Rattle.avs_halves.specs.Changing.{ChangesSets, every, keys_of, run_of}
-use Rattle.avs_sender.specs.Noting.{AreLists, AreSegments, in_list, in_lists}
+use Rattle.avs_halves.specs.Changing.{ChangesSets, keys_of}
+use Rattle.avs_sender.specs.Noting.{AreLists, in_lists}
+use Rattle.avs_halves.specs.Marks.{in_list}
 use Rattle.avs_sender.specs.Beginning.{begun_keys}
-use Rattle.avs_sender.proofs.Changes.{changes_none, changes_ok, changes_err, changes_same, changes_then, made_wider}
+use Rattle.avs_halves.proofs.Following.{changes_none, changes_ok, changes_err, changes_same, changes_then, changes_wider}
 use Rattle.avs_sender.proofs.Noted.{AreInside}
-
--- a change that stopped is one of more segments
-pub stopped_wider : {T E : Type 0} (keys more : Keys) (on : Bool) (a b : List SetBits) (e : E) → ((set seg : ℕ) → keys set seg ≡ true → more set seg ≡ true) → ChangesSets {T = T} keys on a (Err e) b → ChangesSets {T = T} more on a (Err e) b
-stopped_wider keys more on a b e wider c = record {
-  count = c.count;
-  part = λ set. made_wider (keys set) (more set) on (set_at a set) (set_at b set) (λ seg is. wider set seg is) (c.part set);
-  done = tt;
-  failed = c.failed;
-}
-
-segs_same : {T E : Type 0} (keys : Keys) (on : Bool) (old new : List SetBits) (r : Result T E) → ChangesSets keys on old r new → (set : ℕ) → (set_at new set).bits.segs ≡ (set_at old set).bits.segs
-segs_same keys on old new r c set = ap (λ (s : SetBits). s.bits.segs) (c.part set).rest
-
-pub segments_same : {T E : Type 0} (keys : Keys) (on : Bool) (old new : List SetBits) (r : Result T E) (set : ℕ) (list : List ℕ) → ChangesSets keys on old r new → AreSegments old set list → AreSegments new set list
-segments_same keys on old new r set list c are = subst (λ (n : ℕ). All (λ seg. seg < n) list) (sym (segs_same keys on old new r c set)) are
-
--- ---- a list
-
-one_inside : (n seg : ℕ) → eqb n seg ≡ is_inside n 1 seg
-one_inside n seg = grind (arith, nat_tests)
-
-pub list_more : (list : List ℕ) (i seg : ℕ) → i < length list → in_list (take (i + 1) list) seg ≡ (in_list (take i list) seg || is_inside (get_or list i 0) 1 seg)
-list_more list i seg low = list_any_more (λ n. eqb n seg) list i 0 low ∙ ap (λ (b : Bool). in_list (take i list) seg || b) (one_inside (get_or list i 0) seg)
-
-list_front : (list : List ℕ) (k seg : ℕ) → in_list (take k list) seg ≡ true → in_list list seg ≡ true
-list_front list k seg is =
-    ap (λ (l : List ℕ). in_list l seg) (sym (take-append-drop k list))
-    ∙ list_any-append (λ n. eqb n seg) (take k list) (drop k list)
-    ∙ or_left (in_list (take k list) seg) (in_list (drop k list) seg) is
-
-and_or : (a b c : Bool) → (a && (b || c)) ≡ ((a && b) || (a && c))
-and_or true b c = refl
-and_or false b c = refl
-
-and_right : (a b c : Bool) → (b ≡ true → c ≡ true) → (a && b) ≡ true → (a && c) ≡ true
-and_right true b c wider is = wider is
-and_right false b c wider is = is
-
-abbrev pub list_front_keys : ℕ → List ℕ → ℕ → Keys
-list_front_keys set list k = keys_of set (in_list (take k list))
-
-module _ {E : Type 0} (sets : List SetBits) (set : ℕ) (list : List ℕ) where
-  pub list_none : ChangesSets {T = Unit {0}} {E = E} (keys_of set (in_list (take 0 list))) true sets (Ok tt) sets
-  list_none = changes_same {T = Unit {0}} {E = E} (λ t s. false) (list_front_keys set list 0) true sets sets (Ok (tt {0})) (λ t s. none (eqb t set)) (changes_none {T = Unit {0}} {E = E} true sets (tt {0}))
-    where
-      none : (b : Bool) → false ≡ (b && false)
-      none true = refl
-      none false = refl
-
-  module _ (i : ℕ) (now next : List SetBits) (low : i < length list) (so : ChangesSets {T = Unit {0}} {E = E} (keys_of set (in_list (take i list))) true sets (Ok tt) now) where
-    both : (t s : ℕ) → (list_front_keys set list i t s || run_of set (get_or list i 0) 1 t s) ≡ list_front_keys set list (i + 1) t s
-    both t s = sym (ap (λ (b : Bool). eqb t set && b) (list_more list i s low) ∙ and_or (eqb t set) (in_list (take i list) s) (is_inside (get_or list i 0) 1 s))
-
-    goes_on : (r : Result (Unit {0}) E) → ChangesSets (run_of set (get_or list i 0) 1) true now r next → ChangesSets (list_front_keys set list (i + 1)) true sets r next
-    goes_on r c = changes_same (λ t s. list_front_keys set list i t s || run_of set (get_or list i 0) 1 t s) (list_front_keys set list (i + 1)) true sets next r both (changes_then (list_front_keys set list i) (run_of set (get_or list i 0) 1) true sets now next tt so r c)
-
-    pub list_goes : (u : Unit {0}) → ChangesSets {E = E} (run_of set (get_or list i 0) 1) true now (Ok u) next → ChangesSets {T = Unit {0}} {E = E} (keys_of set (in_list (take (i + 1) list))) true sets (Ok tt) next
-    list_goes u c = changes_ok (list_front_keys set list (i + 1)) true sets next u tt (goes_on (Ok u) c)
-
-    pub list_stops : {T E' : Type 0} (e : E) (e' : E') → ChangesSets {T = Unit {0}} (run_of set (get_or list i 0) 1) true now (Err e) next → ChangesSets {T = T} (keys_of set (in_list list)) true sets (Err e') next
-    list_stops {T = T} e e' c = changes_err (keys_of set (in_list list)) true sets next e e'
-        (stopped_wider (list_front_keys set list (i + 1)) (keys_of set (in_list list)) true sets next e (λ t s is. and_right (eqb t set) (in_list (take (i + 1) list) s) (in_list list s) (list_front list (i + 1) s) is) (goes_on (Err e) c))
 
 -- ---- a list for each set
 
@@ -124,7 +60,7 @@ module _ {E : Type 0} (sets : List SetBits) (lists : List (List ℕ)) where
 
     pub lists_stop : {T E' : Type 0} (e : E) (e' : E') → ChangesSets {T = Unit {0}} (keys_of i (in_list (get_or lists i []))) true now (Err e) next → ChangesSets {T = T} (in_lists lists) true sets (Err e') next
     lists_stop {T = T} e e' c = changes_err (in_lists lists) true sets next e e'
-        (stopped_wider (lists_below lists (i + 1)) (in_lists lists) true sets next e (λ t s is. and_snd (nat_lt t (i + 1)) (in_lists lists t s) is) (go_on (Err e) c))
+        (changes_wider (lists_below lists (i + 1)) (in_lists lists) true sets next e (λ t s is. and_snd (nat_lt t (i + 1)) (in_lists lists t s) is) (go_on (Err e) c))
 
 -- ---- the keys of a beginning
 

@@ -159,7 +159,7 @@ module _ (sound : Type 0) (below : BelowSeen) (h : SenderHalf) (applied : ℕ) (
       sets = sets_stay (learned_keys h applied) false h.sets sets (Ok tt) changed;
       below = below_noted sound below then p.bytes (Err e) p.sets;
     };
-    failed = inl (record { rose = p.sets.cause.failed; spent = p.sets.spent });
+    failed = inl (record { failed = record { rose = p.sets.cause.failed; spent = p.sets.spent }; sets = λ t. (changed.done t).spared });
     left = refl;
     stopped = λ st. record { gone = frees (due_of h) applied; within = λ set seg on. on; finds = found st (p.sets.left (told_note below below.note st.stored)) };
   }
@@ -239,7 +239,7 @@ module _ {T E : Type 0} (sound : Type 0) (below : BelowSeen) (h : SenderHalf) (a
       sets = sets_stay (learned_keys h applied) false h.sets sets (Err e) changed;
       below = below_same sound below;
     };
-    failed = inr changed.failed;
+    failed = inr (record { failed = changed.failed; faults = refl; armed = refl });
     left = refl;
     stopped = λ st. found st;
   }

@@ -1,10 +1,9 @@
 -- Places of the segments of all sets, one set after another.
-use Rattle.std.proofs.Common.{◌≡◌, ◌≢◌, inl, inr, ℕ, ◌+◌, ◌<◌, ◌≤◌, Bool, true, false, ◌&&◌, List, [], ◌∷◌, ◌++◌, length, map, set, take, replicate, get_or, get_or-set_same, get_or-set_other, length-set, ◌∙◌, sym, refl, ap, subst, arith}
+use Rattle.std.proofs.Common.{◌≡◌, ◌≢◌, inl, inr, ℕ, ◌+◌, ◌<◌, ◌≤◌, Bool, true, false, ◌&&◌, List, [], ◌∷◌, ◌++◌, length, set, take, replicate, get_or, get_or-set_same, get_or-set_other, length-set, ◌∙◌, sym, refl, ap, subst, arith}
 use Rattle.std.specs.Prelude.{nat_lt}
 use Rattle.std.proofs.lemmas.Bool.{cases_eq, cases_lt}
 use Rattle.std.proofs.lemmas.Bool.Decides.{nat_tests}
 use Rattle.std.proofs.lemmas.List.{get_or_past, get_or-replicate, length-replicate, map_push, take_more}
-use Rattle.avs_refs.specs.Places.{Places}
 use Rattle.avs_halves.specs.SetBits.{SetBits, has_bit, no_set, set_at}
 use Rattle.avs_sender.specs.Held.{SetPlaces}
 use Rattle.avs_sender.specs.Meaning.{no_places}

@@ -1,5 +1,5 @@
 -- A sender begins a session.
-use Rattle.std.specs.Prelude.{◌≡◌, ◌⊎◌, ℕ, ◌+◌, ◌<◌, ◌≤◌, ◌^◌, Bool, true, false, if◌then◌else◌, List, length, Result, Ok, Err}
+use Rattle.std.specs.Prelude.{◌≡◌, ◌⊎◌, ℕ, ◌<◌, Bool, true, false, if◌then◌else◌, List, length, Result, Ok, Err}
 use Rattle.avs_model.specs.declared.event.Host.{Host}
 use Rattle.avs_model.specs.declared.event.Host.TheVariants.{P, S}
 use Rattle.avs_model.specs.declared.answer.Refusal.{Refusal}
@@ -70,6 +70,7 @@ pub record IsBegun (sound sound_new : Type 0) (old : SenderHeld) (b : Beginning)
   pub spared : NoneFailed old new
   pub done : sound → sender_of new ≡ begun_with (sender_of old) b.keys b.number
   pub session : new.half.session ≡ begin true b.number (is_reverse old.half.host)
+  pub note : new.half.note ≡ begun_note old.half b.number
   pub step : IsSenderInStep sound old → IsSenderInStep sound_new new
 
 -- a load finds some of the bits, and no session; or all of them, and one that began the session and left it

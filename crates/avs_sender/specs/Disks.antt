@@ -1,5 +1,5 @@
 -- The disks of a sender by their numbers.
-use Rattle.std.specs.Prelude.{◌≡◌, ℕ, ◌≤◌, ◌==◌, Bool, not, IsTrue, if◌then◌else◌, List, length, Option, Some, slice_set}
+use Rattle.std.specs.Prelude.{◌≡◌, ℕ, ◌≤◌, ◌==◌, Bool, not, IsTrue, if◌then◌else◌, length, Option, Some, slice_set}
 use Rattle.avs_dev.specs.Seen.{Seen, with_tear}
 use Rattle.avs_dev.specs.declared.disk.Tear.{Tear}
 use Rattle.avs_halves.specs.SetBits.{disk_at, set_at}

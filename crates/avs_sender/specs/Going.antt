@@ -20,6 +20,16 @@ pub record NoneFailed (old new : SenderHeld) : Type 0 where
   pub armed : new.below.armed ≡ old.below.armed
   pub sets : (set : ℕ) → IsSpared (disk_at old.half.sets set) (disk_at new.half.sets set)
 
--- of all devices one has failed: one below, or the disk of a set's bits
+-- a device below has failed, and no disk of the half; or the disk of a set's bits, of all disks, and nothing below
+pub record BelowAloneFailed (old new : SenderHeld) : Type 0 where
+  pub failed : BelowFailed old.below new.below
+  pub sets : (set : ℕ) → IsSpared (disk_at old.half.sets set) (disk_at new.half.sets set)
+
+pub record SetAloneFailed (old new : SenderHeld) : Type 0 where
+  pub failed : OneFails (disk_at old.half.sets) (disk_at new.half.sets)
+  pub faults : new.below.faults ≡ old.below.faults
+  pub armed : new.below.armed ≡ old.below.armed
+
+-- of all devices one has failed
 abbrev pub OneFailed : SenderHeld → SenderHeld → Type 0
-OneFailed old new = BelowFailed old.below new.below ⊎ OneFails (disk_at old.half.sets) (disk_at new.half.sets)
+OneFailed old new = BelowAloneFailed old new ⊎ SetAloneFailed old new

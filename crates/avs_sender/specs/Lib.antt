@@ -17,3 +17,6 @@ pub mod Ticking
 pub mod Refusing
 pub mod Noting
 pub mod Beginning
+pub mod Placing
+pub mod Admitting
+pub mod Copying

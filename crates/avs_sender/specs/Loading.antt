@@ -1,5 +1,5 @@
 -- How a sender is found on its parts.
-use Rattle.std.specs.Prelude.{◌≡◌, ◌⊎◌, ℕ, ◌<◌, not, List, [], length, map, Some, Result, Ok, Err}
+use Rattle.std.specs.Prelude.{◌≡◌, ◌⊎◌, ℕ, ◌<◌, not, List, [], length, Some, Result, Ok, Err}
 use Rattle.avs_dev.specs.Seen.{Seen, IsTold}
 use Rattle.avs_dev.specs.Below.{IsToldAt}
 use Rattle.avs_dev.specs.declared.back.Why.{Why}
@@ -16,7 +16,7 @@ use Rattle.avs_sync.specs.declared.session.Session.{Session}
 use Rattle.avs_halves.specs.SetBits.{SetBits}
 use Rattle.avs_halves.specs.Loading.{LoadsSets, SetsRefused}
 use Rattle.avs_halves.specs.Found.{part_at}
-use Rattle.avs_halves.specs.Over.{AreLoadable}
+use Rattle.avs_halves.specs.Over.{AreLoadable, IsOver}
 use Rattle.avs_sender.specs.Held.{SenderHalf, SenderHeld, SenderParts, SetPlaces, parts_of}
 use Rattle.avs_sender.specs.Meaning.{IsSenderInStep, sender_of, found_on}
 use Rattle.avs_sender.specs.Places.{places_for}
@@ -81,6 +81,7 @@ HalfRefused sizes parts why back = SetsRefused sizes parts why back ⊎ ((why �
 pub record Loads (sound : Type 0) (p : SenderParts) (limits : Limits) (new : SenderHeld) : Type 0 where
   pub parts_are : parts_of new ≡ p
   pub limits_are : new.half.queue.limits ≡ limits
+  pub lie : IsOver p.below new.half.sets
   pub note : IsNote p.below.note new.half.note
   pub session : new.half.session ≡ found_session new.half.note
   pub means : AreToldParts p → sender_of new ≡ found_on p

@@ -1,9 +1,12 @@
-//! The sending half of a mirror group: it is found on its parts, begins a session, learns that places were applied, and leaves.
+//! The sending half of a mirror group: it is found on its parts, begins a session, takes writes, copies, learns that places were
+//! applied, and leaves.
 #![tactic(auto)]
 
+mod admitting;
 mod asking;
 mod beginning;
 mod contents;
+mod copying;
 mod disks;
 mod freeing;
 mod half;
@@ -19,5 +22,7 @@ mod tracked;
 mod tracking;
 mod waiting;
 
+pub use admitting::Admitted;
 pub use asking::Settled;
+pub use copying::SyncStep;
 pub use sender::Sender;

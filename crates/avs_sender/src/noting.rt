@@ -1,27 +1,11 @@
 // Bits of segments that are named in lists.
-ghost use Rattle.std.specs.Prelude.{◌≡◌, ◌<◌, ◌≤◌, true, length};
-ghost use Rattle.avs_halves.specs.Changing.{ChangesSets, keys_of};
-ghost use Rattle.avs_sender.specs.Noting.{AreLists, AreSegments, in_list, in_lists};
+ghost use Rattle.std.specs.Prelude.{◌≤◌, true, length};
+ghost use Rattle.avs_halves.specs.Changing.{ChangesSets};
+ghost use Rattle.avs_sender.specs.Noting.{AreLists, in_lists};
 
 use avs_dev::Disk;
-use avs_halves::MirrorSets;
+use avs_halves::{MirrorSets, note_list};
 use avs_seg::{Failed, SegList};
-
-// Sets the bits of segments of a set.
-pub(crate) fn note_list<D: Disk>(
-    sets: &mut MirrorSets<D>,
-    set: u32,
-    list: &[u32],
-) -> Result<(), Failed>
-    requires set { set < length sets.old }
-    requires list { AreSegments sets.old set list.now }
-    ensures { ChangesSets (keys_of set (in_list list.now)) true sets.old result sets.new }
-{
-    for seg in list {
-        sets.note(set, *seg, 1)?;
-    }
-    Ok(())
-}
 
 // Sets the bits of segments of each set.
 pub(crate) fn note_lists<D: Disk>(sets: &mut MirrorSets<D>, lists: &[SegList]) -> Result<(), Failed>

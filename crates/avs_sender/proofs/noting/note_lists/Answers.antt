@@ -1,10 +1,9 @@
-use Rattle.std.proofs.Common.{◌∙◌, ◌<◌, ◌≤◌, ℕ, true, List, [], Ok, Err, length, get_or, sym, subst, arith}
+use Rattle.std.proofs.Common.{◌∙◌, ◌<◌, ◌≤◌, ℕ, true, List, [], Ok, length, get_or, sym, subst, arith}
 use Rattle.std.proofs.lemmas.List.{get_or_default}
 use Rattle.std.proofs.lemmas.Result.{err_from_is_err_and}
-use Rattle.avs_seg.specs.declared.fault.Failed.{Failed}
-use Rattle.avs_halves.specs.Changing.{ChangesSets, keys_of}
-use Rattle.avs_sender.specs.Noting.{AreSegments, in_list}
-use Rattle.avs_sender.proofs.Notings.{lists_all, lists_below, lists_go, lists_none, lists_stop, segments_same}
+use Rattle.avs_halves.specs.Marks.{AreSegments}
+use Rattle.avs_halves.proofs.Markings.{segments_same}
+use Rattle.avs_sender.proofs.Notings.{lists_all, lists_below, lists_go, lists_none, lists_stop}
 use Rattle.avs_sender.proofs.noting.note_lists.Goals as goal
 
 pub loop-set-init : goal.loop-set-init

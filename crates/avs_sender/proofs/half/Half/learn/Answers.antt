@@ -8,7 +8,7 @@ use Rattle.avs_sender.specs.Held.{SenderHalf}
 use Rattle.avs_sender.specs.Kept.{IsKept}
 use Rattle.avs_sender.specs.Freeing.{AreSizedAs, FreesEach, freed_keys}
 use Rattle.avs_sender.specs.Learning.{HasLearned, LearnsInPart, half_with}
-use Rattle.avs_sender.proofs.Changes.{changes_ok}
+use Rattle.avs_halves.proofs.Following.{changes_ok}
 use Rattle.avs_sender.proofs.LearnedHalf.{has_learned, learns_in_part, learns_kept, stops_kept}
 use Rattle.avs_sender.proofs.half.Half.learn.Goals as goal
 

@@ -1,8 +1,8 @@
-use Rattle.std.proofs.Common.{◌≡◌, ◌∙◌, ℕ, true, ap, sym, subst, Err, Ok}
+use Rattle.std.proofs.Common.{◌∙◌, ℕ, true, ap, sym, subst, Err, Ok}
 use Rattle.std.proofs.lemmas.Result.{err_from_is_err_and}
 use Rattle.avs_sync.specs.declared.note.Note.{Note}
 use Rattle.avs_halves.specs.Writing.{PutsNote}
-use Rattle.avs_sender.specs.Held.{SenderHalf, held, seen_of}
+use Rattle.avs_sender.specs.Held.{SenderHalf, held}
 use Rattle.avs_sender.specs.Places.{WaitsForBits, places_for}
 use Rattle.avs_sender.specs.Beginning.{IsBeginStopped, IsBegun, beginning, begun_note, half_begun}
 use Rattle.avs_sender.proofs.Noted.{places_same}

@@ -1,4 +1,4 @@
-use Rattle.std.proofs.Common.{sym, subst, ℕ, List, is_ok}
+use Rattle.std.proofs.Common.{subst, ℕ, List, is_ok}
 use Rattle.avs_sender.proofs.Lendings.{lends}
 use Rattle.avs_sender.proofs.sender.Sender.lend.Goals as goal
 

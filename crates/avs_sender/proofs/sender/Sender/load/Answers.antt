@@ -1,5 +1,4 @@
 use Rattle.std.proofs.Common.{sym, subst, map}
-use Rattle.avs_sync.specs.Note.{IsNote}
 use Rattle.avs_halves.specs.Over.{IsOver}
 use Rattle.avs_sender.specs.Held.{SenderHalf}
 use Rattle.avs_sender.specs.PartsView.{seen_parts}
