@@ -9,3 +9,5 @@ pub mod Writings
 pub mod Markings
 pub mod Filling
 pub mod Restored
+pub mod Errands
+pub mod Ran

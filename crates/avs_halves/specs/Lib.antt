@@ -8,3 +8,4 @@ pub mod Over
 pub mod Found
 pub mod Words
 pub mod Marks
+pub mod Restoring
