@@ -13,5 +13,4 @@ pub mod Settled
 pub mod Loaded
 pub mod Lent
 pub mod Sure
-pub mod Errands
 pub mod Restorings

@@ -1,5 +1,5 @@
 -- What a restoration leaves of a receiver.
-use Rattle.std.proofs.Common.{◌≡◌, ◌≢◌, ◌⊎◌, inl, inr, ℕ, ◌<◌, ◌≤◌, Bool, true, false, ◌&&◌, ◌||◌, not, cond, eqb, List, [], length, map, get_or, Result, Ok, Err, Some, ◌∙◌, sym, refl, ap, subst, arith}
+use Rattle.std.proofs.Common.{◌≡◌, ◌≢◌, ◌⊎◌, inl, inr, ℕ, ◌<◌, ◌≤◌, Bool, true, false, ◌&&◌, ◌||◌, not, cond, eqb, List, [], length, map, get_or, Result, Ok, Err, ◌∙◌, sym, refl, ap, subst, arith}
 use Rattle.std.specs.Prelude.{nat_lt}
 use Rattle.std.specs.Int.{bit_at}
 use Rattle.std.proofs.Math.Path.{fun_ext}
@@ -17,25 +17,25 @@ use Rattle.avs_mirrors.specs.Accepts.{AcceptsRestore}
 use Rattle.avs_mirrors.specs.Due.{noted}
 use Rattle.avs_mirrors.specs.Entries.{Images}
 use Rattle.avs_mirrors.specs.Half.{HalfState, Sets, is_marked, is_session, with_bits}
-use Rattle.avs_sync.specs.Note.{IsNote, note_at}
+use Rattle.avs_sync.specs.Note.{IsNote}
 use Rattle.avs_sync.specs.declared.note.Note.{Note}
-use Rattle.avs_sync.proofs.Notes.{note_at-is}
 use Rattle.avs_halves.specs.Changing.{ChangesSets}
 use Rattle.avs_halves.specs.Found.{is_filled}
 use Rattle.avs_halves.specs.Marks.{AreMarks, AreNamedFilled, Mark, changed_all, marked, named, restored_in}
 use Rattle.avs_halves.specs.Over.{IsOver}
+use Rattle.avs_halves.specs.Restoring.{IsGiven, IsRestoredTo, KeepsVolume, LeavesAll, RestoresAll, RestoresOrLeaves}
 use Rattle.avs_halves.specs.SetBits.{AreInStep, SetBits, due_of, no_set, set_at}
+use Rattle.avs_halves.proofs.Errands.{filled_noted, one_given, over_run, run_before}
 use Rattle.avs_halves.proofs.Filling.{marks_inside, named_there}
 use Rattle.avs_halves.proofs.Lying.{due_is}
+use Rattle.avs_halves.proofs.Ran.{EndsWith, contents_named as named_slots, last_left, last_others, last_restored, note_then, stored_then, told_then}
 use Rattle.avs_halves.proofs.Restored.{are_restored, restored_is}
 use Rattle.avs_halves.proofs.Staying.{over_changed, sets_stay, told_note}
 use Rattle.avs_halves.proofs.Writings.{all_noted, same_slots, same_vols}
 use Rattle.avs_receiver.specs.Held.{ReceiverHalf, ReceiverHeld, half_noted, held, parts_of}
-use Rattle.avs_receiver.specs.Lending.{KeepsVolume}
 use Rattle.avs_receiver.specs.Meaning.{Finds, IsLandedFor, IsReceiverInStep, StandsFor, contents_in, found_by, half_by, images_in, is_redone, receiver_of, slots_of, state_in, vols_of}
-use Rattle.avs_receiver.specs.Restoring.{FindsSomeBits, IsGiven, IsRestoreDone, IsRestoreStopped, IsRestoredTo, LeavesAll, RestoresAll, RestoresNoted, RestoresOrLeaves, RunsErrand}
+use Rattle.avs_receiver.specs.Restoring.{FindsSomeBits, IsRestoreDone, IsRestoreStopped, RestoresNoted, RunsErrand}
 use Rattle.avs_receiver.specs.Slots.{IsFree}
-use Rattle.avs_receiver.proofs.Errands.{filled_noted, one_given, over_run, run_before}
 use Rattle.avs_receiver.proofs.Leavings.{session_sets}
 use Rattle.avs_receiver.proofs.Meanings.{part_slots, part_vols, stored_is}
 use Rattle.avs_receiver.proofs.Stopped.{due_some, found_away, some_keys, some_within}
@@ -75,12 +75,6 @@ module _ (h : ReceiverHalf) where
   contents_at : (empty set : ℕ) → contents_in empty (slots_of h.sets) set ≡ (nat_lt set (length h.sets) && is_filled empty (set_at h.sets set).slot)
   contents_at empty set = λ i. nat_lt set (length-map h.sets (λ s. s.slot) i) && is_filled empty (get_or-map (λ s. s.slot) h.sets set no_set i)
 
-  contents_one : (there on was now : Bool) → (on ≡ true → (there ≡ true) × (now ≡ true)) → (on ≡ false → there ≡ true → now ≡ was) → (there && now) ≡ (on || (there && was))
-  contents_one true true was now full same = (full refl).1
-  contents_one true false was now full same = same refl refl
-  contents_one false true was now full same = (full refl).0
-  contents_one false false was now full same = refl
-
   module _ (marks : List Mark) (below new : BelowSeen) (over : IsOver below h.sets) (are : AreMarks h.sets marks) where
     pub images_named : (bytes : List ℕ) (ok : Bool) → RestoresAll h.sets marks bytes ok below new
         → images_in new.images (vols_of h.sets) ≡ (λ t. cond (named marks t) (images_in new.images (vols_of h.sets) t) (images_in below.images (vols_of h.sets) t))
@@ -90,31 +84,10 @@ module _ (h : ReceiverHalf) where
           ∙ sym (ap (λ (b : Bool). cond b (images_in new.images (vols_of h.sets) t) (images_in below.images (vols_of h.sets) t)) off)
     ])
 
-    -- the slot of a set that is not named is that of no other
-    unnamed : (set : ℕ) → set < length h.sets → named marks set ≡ false → (other : ℕ) → named marks other ≡ true → (set_at h.sets other).slot ≢ (set_at h.sets set).slot
-    unnamed set low off other on same = no (named marks set) off (subst (λ (k : ℕ). named marks k ≡ true) (over.slots set other low (named_there h.sets marks other are on) same) on)
-      where
-        no : (b : Bool) → b ≡ false → b ≡ true → ⊥
-        no b isnt is = cc
-
     pub contents_named : (empty : ℕ) → AreNamedFilled h.sets marks h.note.empty empty
         → contents_in empty (slots_of h.sets) ≡ (λ t. named marks t || contents_in h.note.empty (slots_of h.sets) t)
-    contents_named empty f = fun_ext (λ t. contents_at empty t
-        ∙ contents_one (nat_lt t (length h.sets)) (named marks t) (is_filled h.note.empty (set_at h.sets t).slot) (is_filled empty (set_at h.sets t).slot)
-        (λ on. (low_on t (length h.sets) (named_there h.sets marks t are on), f.sets_are t on))
-        (λ off there. same t off there)
+    contents_named empty f = fun_ext (λ t. contents_at empty t ∙ named_slots h.sets marks below over are h.note.empty empty f t
         ∙ ap (λ (b : Bool). named marks t || b) (sym (contents_at h.note.empty t)))
-      where
-        low_of : (a b : ℕ) → nat_lt a b ≡ true → a < b
-        low_of a b on = grind (arith, nat_tests)
-
-        same : (t : ℕ) → named marks t ≡ false → nat_lt t (length h.sets) ≡ true → is_filled empty (set_at h.sets t).slot ≡ is_filled h.note.empty (set_at h.sets t).slot
-        same t off there =
-            let low = low_of t (length h.sets) there in
-            ap is_filled_by (f.others (set_at h.sets t).slot (over.each t low).slot (unnamed t low off))
-          where
-            is_filled_by : ℕ → Bool
-            is_filled_by b = not (eqb b 1)
 
     -- what the machine asks of it
     pub accepts : (sound : Type 0) (kept : Sets) (bytes : List ℕ) (ok : Bool) → is_session (state_in h.note) ≡ false → IsReceiverInStep sound (held below h) → RestoresAll h.sets marks bytes ok below new
@@ -234,64 +207,36 @@ module _ (sound : Type 0) (below new : BelowSeen) (h : ReceiverHalf) (marks : Li
 
   -- ---- at Ok
 
-  -- the volumes of the sets are told
-  told_then : (bytes : List ℕ) (ok : Bool) → IsReceiverInStep sound (held below h) → RestoresOrLeaves h.sets marks bytes ok below new → (set : ℕ) → set < length h.sets → IsToldAt new (set_at h.sets set).vol
-  told_then bytes ok st (inl l) set low = let v = l.each set low in ap (λ (img : Image). length img) v.image ∙ st.memory.volumes set low ∙ sym v.size
-  told_then bytes ok st (inr r) set low = elim (cases_Bool (named marks set)) [
-    | inl on ↦ (r.changed set on).told (st.memory.volumes set low)
-    | inr off ↦ let v = r.others set low off in ap (λ (img : Image). length img) v.image ∙ st.memory.volumes set low ∙ sym v.size
-  ]
-
-  stored_then : (bytes : List ℕ) → IsReceiverInStep sound (held below h) → RestoresOrLeaves h.sets marks bytes true below new → new.stored ≡ Some new.note
-  stored_then bytes st (inl l) = l.stored ∙ st.memory.stored ∙ ap Some (sym (l.note refl))
-  stored_then bytes st (inr r) = r.stored (told_note below below.note st.memory.stored) ∙ ap Some (sym (r.note refl))
-
   module _ (bytes : List ℕ) (empty last : ℕ) (is : IsNote bytes (record h.note { empty = empty })) (f : AreNamedFilled h.sets marks h.note.empty empty)
-      (run : RestoresOrLeaves h.sets marks bytes true below new) (ends : ((new.note ≢ bytes) × (last ≡ h.note.empty)) ⊎ ((new.note ≡ bytes) × (last ≡ empty))) where
-    -- the note in memory is the one below
-    note_then : IsReceiverInStep sound (held below h) → (run : RestoresOrLeaves h.sets marks bytes true below new) → (((new.note ≢ bytes) × (last ≡ h.note.empty)) ⊎ ((new.note ≡ bytes) × (last ≡ empty))) → IsNote new.note (record h.note { empty = last })
-    note_then st (inl l) (inl other) = subst (λ (b : List ℕ). IsNote b (record h.note { empty = last })) (sym (l.note refl)) (subst (λ (k : ℕ). IsNote below.note (record h.note { empty = k })) (sym other.1) st.memory.note)
-    note_then st (inr r) (inl other) = absurd (other.0 (r.note refl))
-    note_then st any (inr same) = subst (λ (b : List ℕ). IsNote b (record h.note { empty = last })) (sym same.0) (subst (λ (k : ℕ). IsNote bytes (record h.note { empty = k })) (sym same.1) is)
-
-    -- where all was left its slots are as they were
-    last_left : IsReceiverInStep sound (held below h) → LeavesAll h.sets true below new → (((new.note ≢ bytes) × (last ≡ h.note.empty)) ⊎ ((new.note ≡ bytes) × (last ≡ empty))) → last ≡ h.note.empty
-    last_left st l (inl other) = other.1
-    last_left st l (inr same) = same.1 ∙ ap (λ (n : Note). n.empty) (sym (note_at-is bytes (record h.note { empty = empty }) is) ∙ ap note_at (sym same.0 ∙ l.note refl) ∙ note_at-is below.note h.note st.memory.note)
-
-    last_restored : new.note ≡ bytes → (((new.note ≢ bytes) × (last ≡ h.note.empty)) ⊎ ((new.note ≡ bytes) × (last ≡ empty))) → last ≡ empty
-    last_restored now (inl other) = absurd (other.0 now)
-    last_restored now (inr same) = same.1
-
-    given : IsGiven h marks bytes
+      (run : RestoresOrLeaves h.sets marks bytes true below new) (ends : EndsWith new bytes h.note.empty empty last) where
+    given : IsGiven h.sets h.note marks bytes
     given = record { note = record h.note { empty = empty }; stands = is; restoring = record { is = refl; filled = f } }
 
-    unnamed_slots : (((new.note ≢ bytes) × (last ≡ h.note.empty)) ⊎ ((new.note ≡ bytes) × (last ≡ empty))) → (slot : ℕ) → slot < 16 → IsFree h.sets slot → bit_at last slot ≡ bit_at h.note.empty slot
-    unnamed_slots (inl other) slot low free = ap (λ (k : ℕ). bit_at k slot) other.1
-    unnamed_slots (inr same) slot low free = ap (λ (k : ℕ). bit_at k slot) same.1 ∙ f.others slot low (λ set on is. free set (named_there h.sets marks set are on) is)
+    unnamed_slots : (slot : ℕ) → slot < 16 → IsFree h.sets slot → bit_at last slot ≡ bit_at h.note.empty slot
+    unnamed_slots slot low free = last_others h.sets marks new bytes h.note.empty empty last f ends slot low (λ set on same. free set (named_there h.sets marks set are on) same)
 
-    restored_then : IsReceiverInStep sound (held below h) → (other : List ℕ) → IsGiven h marks other → RestoresAll h.sets marks other true below new → (kept : Sets)
+    restored_then : IsReceiverInStep sound (held below h) → (other : List ℕ) → IsGiven h.sets h.note marks other → RestoresAll h.sets marks other true below new → (kept : Sets)
         → IsRestoredTo (StandsFor (held new (half_with h sets last))) (receiver_of kept (held below h)) marks
     restored_then st other g r kept = record {
       images = images_then;
       accepts = accepts h marks below new over are sound kept other true away st r;
-      so = subst (λ (k : ℕ). StandsFor (held new (half_with h sets k)) (restored_half kept)) (sym (last_restored (r.note refl ∙ one_given h marks other bytes g given) ends)) (stands_restored kept empty other true f r);
+      so = subst (λ (k : ℕ). StandsFor (held new (half_with h sets k)) (restored_half kept)) (sym (last_restored new bytes h.note.empty empty last (r.note refl ∙ one_given h.sets h.note marks other bytes g given) ends)) (stands_restored kept empty other true f r);
     }
 
     pub restore_done : (sound_new : Type 0) → IsRestoreDone sound sound_new (held below h) marks (held new (half_with h sets last))
     restore_done sound_new = record {
       away = away;
       stays = record { host = refl; queue = refl; land = refl; count = c.count; sets = sets_stay (marked marks) true h.sets sets (Ok u) c; labels = λ t. (c.part t).label };
-      session = record { number = refl; role = refl; reverse = refl; applied = refl; mark = refl; slots = unnamed_slots ends };
+      session = record { number = refl; role = refl; reverse = refl; applied = refl; mark = refl; slots = unnamed_slots };
       spared = λ t. (c.done t).spared;
-      left = λ st l kept. subst (λ (k : ℕ). StandsFor (held new (half_with h sets k)) (noted_half kept)) (sym (last_left st l ends)) (stands_left kept l.each);
+      left = λ st l kept. subst (λ (k : ℕ). StandsFor (held new (half_with h sets k)) (noted_half kept)) (sym (last_left h.sets marks below new h.note bytes empty last st.memory.note is l ends)) (stands_left kept l.each);
       restored = restored_then;
       step = λ s st. record {
         memory = record {
           sound = s;
-          stored = stored_then bytes st run;
-          note = note_then st run ends;
-          volumes = λ t low. subst (λ (v : ℕ). IsToldAt new v) (sym (ap (λ (s : SetBits). s.vol) (c.part t).rest)) (told_then bytes true st run t (omega (arith, low, c.count)));
+          stored = stored_then h.sets marks below new bytes st.memory.stored run;
+          note = note_then h.sets marks below new h.note bytes empty last st.memory.note is run ends;
+          volumes = λ t low. subst (λ (v : ℕ). IsToldAt new v) (sym (ap (λ (s : SetBits). s.vol) (c.part t).rest)) (told_then h.sets marks below new bytes true st.memory.volumes run t (omega (arith, low, c.count)));
           bits = step_then st.memory.bits;
           landing = record {
             told = st.memory.landing.told;
@@ -334,12 +279,12 @@ module _ (sound : Type 0) (below new : BelowSeen) (h : ReceiverHalf) (marks : Li
 module _ (sound sound_new : Type 0) (below : BelowSeen) (h : ReceiverHalf) (marks : List Mark) (over : IsOver below h.sets) (are : AreMarks h.sets marks) (away : is_session (state_in h.note) ≡ false)
     {E : Type 0} (u : Unit {0}) (sets : List SetBits) (c : ChangesSets {E = E} (marked marks) true h.sets (Ok u) sets) (last : ReceiverHeld) where
   -- the note that was given
-  module _ (bytes : List ℕ) (noted : IsGiven (record h { sets = sets }) marks bytes) where
+  module _ (bytes : List ℕ) (noted : IsGiven sets h.note marks bytes) where
     abbrev slots : ℕ
     slots = noted.note.empty
 
     filled_then : AreNamedFilled h.sets marks h.note.empty slots
-    filled_then = filled_noted (marked marks) true h sets (Ok u) c marks h.note.empty slots noted.restoring.filled
+    filled_then = filled_noted (marked marks) true h.sets sets (Ok u) c marks h.note.empty slots noted.restoring.filled
 
     is_then : IsNote bytes (record h.note { empty = slots })
     is_then = subst (λ (n : Note). IsNote bytes n) noted.restoring.is noted.stands
@@ -357,8 +302,8 @@ module _ (sound sound_new : Type 0) (below : BelowSeen) (h : ReceiverHalf) (mark
         (restore_failed sound below last.below h marks over are away u sets c bytes run rose)
 
   pub noted_then : {F : Type 0} (r : Result (Unit {0}) F) → RunsErrand (held below (record h { sets = sets })) marks r last → RestoresNoted sound sound_new (held below h) marks r last
-  noted_then (Ok x) e = ends_then e.bytes e.given (run_before (marked marks) true h sets (Ok u) c marks e.bytes true below last.below e.below) e.done
-  noted_then (Err x) e = fails_then e.bytes e.given (run_before (marked marks) true h sets (Ok u) c marks e.bytes false below last.below e.below) e.failed e.rose
+  noted_then (Ok x) e = ends_then e.bytes e.given (run_before (marked marks) true h.sets sets (Ok u) c marks e.bytes true below last.below e.below) e.done
+  noted_then (Err x) e = fails_then e.bytes e.given (run_before (marked marks) true h.sets sets (Ok u) c marks e.bytes false below last.below e.below) e.failed e.rose
 
 -- ---- where it stopped in the bits
 

@@ -1,17 +1,12 @@
 -- What the layer above runs on what lies below a receiver.
 use Rattle.std.specs.Prelude.{◌≡◌, ℕ, ◌<◌, List, length}
-use Rattle.avs_dev.specs.Below.{BelowSeen, image_of, size_of}
+use Rattle.avs_dev.specs.Below.{BelowSeen}
 use Rattle.avs_mirrors.specs.Half.{Sets}
+use Rattle.avs_halves.specs.Restoring.{KeepsVolume}
 use Rattle.avs_halves.specs.SetBits.{SetBits, set_at}
 use Rattle.avs_receiver.specs.Held.{ReceiverHeld, parts_of}
 use Rattle.avs_receiver.specs.Meaning.{IsReceiverInStep, receiver_of}
 use Rattle.avs_receiver.specs.CatchingUp.{FindsAgain}
-
--- a volume is as it was
-pub record KeepsVolume (old new : BelowSeen) (vol : ℕ) : Type 0 where
-  pub there : vol < length new.sizes
-  pub size : size_of new vol ≡ size_of old vol
-  pub image : image_of new vol ≡ image_of old vol
 
 -- the note and the volumes of sets are as they were; other volumes may be others
 pub record KeepsVolumes (sets : List SetBits) (old new : BelowSeen) : Type 0 where

@@ -1,92 +1,38 @@
 -- Sets of a receiver are restored by the layer above: the bits of marked segments first, and then an errand that gives them other images.
-use Rattle.std.specs.Prelude.{◌≡◌, ◌≢◌, ◌⊎◌, ℕ, ◌/◌, ◌<◌, Bool, true, false, List, length, Result, Ok, Err, OnOk, OnErr, is_ok, Some}
-use Rattle.avs_seg.specs.Image.{block_at}
+use Rattle.std.specs.Prelude.{◌≡◌, ◌≢◌, ◌⊎◌, ℕ, Bool, true, false, List, Result, Ok, Err, OnOk, OnErr, is_ok}
 use Rattle.avs_dev.specs.Seen.{IsSpared}
 use Rattle.avs_dev.specs.Devices.{OneRose}
-use Rattle.avs_dev.specs.Below.{BelowSeen, IsNoteTold, IsToldAt, image_of, size_of}
+use Rattle.avs_dev.specs.Below.{BelowSeen}
 use Rattle.avs_model.specs.declared.answer.Refusal.{Refusal}
 use Rattle.avs_model.specs.declared.answer.Refusal.TheVariants as refusal
-use Rattle.avs_mirrors.specs.Accepts.{AcceptsRestore}
-use Rattle.avs_mirrors.specs.Due.{Keys, Segments}
-use Rattle.avs_mirrors.specs.Entries.{Images}
+use Rattle.avs_mirrors.specs.Due.{Keys}
 use Rattle.avs_mirrors.specs.Half.{HalfState, Sets, is_session, with_bits}
-use Rattle.avs_sync.specs.Note.{IsNote}
-use Rattle.avs_sync.specs.declared.note.Note.{Note}
-use Rattle.avs_halves.specs.Marks.{AreNamedFilled, Mark, changed_all, marked, named, restored_in}
-use Rattle.avs_halves.specs.SetBits.{SetBits, disk_at, set_at}
+use Rattle.avs_halves.specs.Marks.{Mark, marked}
+use Rattle.avs_halves.specs.Restoring.{IsGiven, IsRestoredTo, LeavesAll, RanWith, RestoresAll, RestoresOrLeaves}
+use Rattle.avs_halves.specs.SetBits.{disk_at}
 use Rattle.avs_receiver.specs.Held.{ReceiverHalf, ReceiverHeld, ReceiverOf, ReceiverParts, half_noted, parts_of}
 use Rattle.avs_receiver.specs.Meaning.{Finds, IsReceiverInStep, StandsFor, receiver_of, state_in}
 use Rattle.avs_receiver.specs.Going.{HalfStays, SessionStays, SetAloneFailed}
-use Rattle.avs_receiver.specs.Lending.{KeepsVolume}
 use Rattle.avs_receiver.specs.Writing.{IsInSession}
 
--- ---- the note that the errand is given
-
--- it differs from that of the half in its slots alone: by these the named sets have contents
-pub record IsRestoringNote (h : ReceiverHalf) (marks : List Mark) (n : Note) : Type 0 where
-  pub is : n ≡ record h.note { empty = n.empty }
-  pub filled : AreNamedFilled h.sets marks h.note.empty n.empty
-
-pub record IsGiven (h : ReceiverHalf) (marks : List Mark) (bytes : List ℕ) : Type 0 where
-  pub note : Note
-  pub stands : IsNote bytes note
-  pub restoring : IsRestoringNote h marks note
-
--- ---- what the errand may make of what lies below
-
--- a volume is as large, and has other blocks in these segments alone
-pub record ChangesVolume (keys : Segments) (old new : BelowSeen) (vol : ℕ) : Type 0 where
-  pub there : vol < length new.sizes
-  pub size : size_of new vol ≡ size_of old vol
-  pub told : IsToldAt old vol → IsToldAt new vol
-  pub outside : IsToldAt old vol → (i : ℕ) → keys (i / 64) ≡ false
-      → block_at (image_of new vol) i ≡ block_at (image_of old vol) i
-
--- the volumes of the sets and the note are as they were. Where it failed, the note that is answered may be any
-pub record LeavesAll (sets : List SetBits) (ok : Bool) (old new : BelowSeen) : Type 0 where
-  pub note : ok ≡ true → new.note ≡ old.note
-  pub stored : new.stored ≡ old.stored
-  pub each : (set : ℕ) → set < length sets → KeepsVolume old new (set_at sets set).vol
-
--- the named sets have other images, those of the others are as they were, and the note is as given
-pub record RestoresAll (sets : List SetBits) (marks : List Mark) (bytes : List ℕ) (ok : Bool) (old new : BelowSeen) : Type 0 where
-  pub note : ok ≡ true → new.note ≡ bytes
-  pub stored : IsNoteTold old → new.stored ≡ Some bytes
-  pub changed : (set : ℕ) → named marks set ≡ true → ChangesVolume (marked marks set) old new (set_at sets set).vol
-  pub others : (set : ℕ) → set < length sets → named marks set ≡ false → KeepsVolume old new (set_at sets set).vol
-
--- one of the two
-abbrev pub RestoresOrLeaves : List SetBits → List Mark → List ℕ → Bool → BelowSeen → BelowSeen → Type 0
-RestoresOrLeaves sets marks bytes ok old new = LeavesAll sets ok old new ⊎ RestoresAll sets marks bytes ok old new
+-- ---- the errand
 
 -- it is one of the two, whatever it answers: what `ran` makes of the errand and of what lies below
 abbrev pub MayRestore : {E B : Type 0} → (B → BelowSeen) → (List ℕ → Bool → E → B → Type 0) → ReceiverOf B → List Mark → Type 0
-MayRestore {E} {B} seen ran old marks = (bytes : List ℕ) (ok : Bool) (e : E) (b : B) → IsGiven old.half marks bytes → ran bytes ok e b
+MayRestore {E} {B} seen ran old marks = (bytes : List ℕ) (ok : Bool) (e : E) (b : B) → IsGiven old.half.sets old.half.note marks bytes → ran bytes ok e b
     → RestoresOrLeaves old.half.sets marks bytes ok (seen old.below) (seen b)
 
 -- it has run. Where it answered Ok, and the note below is the one that was given, that is the half's
 pub record RunsErrand {T E : Type 0} (old : ReceiverHeld) (marks : List Mark) (result : Result T E) (new : ReceiverHeld) : Type 0 where
   pub bytes : List ℕ
-  pub given : IsGiven old.half marks bytes
+  pub given : IsGiven old.half.sets old.half.note marks bytes
   pub below : RestoresOrLeaves old.half.sets marks bytes (is_ok result) old.below new.below
   pub done : OnOk result (((new.below.note ≢ bytes) × (new.half ≡ old.half))
       ⊎ ((new.below.note ≡ bytes) × (new.half ≡ half_noted old.half given.note old.half.applied)))
   pub failed : OnErr result (new.half ≡ old.half)
   pub rose : OnErr result (OneRose old.below.faults new.below.faults)
 
--- it ran once, with that note; `ran` is the errand's own relation
-pub record RanWith (ran : List ℕ → Type 0) (h : ReceiverHalf) (marks : List Mark) : Type 0 where
-  pub bytes : List ℕ
-  pub given : IsGiven h marks bytes
-  pub run : ran bytes
-
 -- ---- what stands then
-
--- a half with these bits, whose named sets have other images, inside the marked segments, and contents
-pub record IsRestoredTo (is : HalfState → Type 0) (x : HalfState) (marks : List Mark) : Type 0 where
-  pub images : Images
-  pub accepts : AcceptsRestore x (marked marks) (restored_in marks images)
-  pub so : is (changed_all (with_bits x (marked marks)) (restored_in marks images))
 
 -- the bits are set, and the half is what the errand made of it
 pub record IsRestoreDone (sound sound_new : Type 0) (old : ReceiverHeld) (marks : List Mark) (new : ReceiverHeld) : Type 0 where
@@ -96,7 +42,7 @@ pub record IsRestoreDone (sound sound_new : Type 0) (old : ReceiverHeld) (marks 
   pub spared : (set : ℕ) → IsSpared (disk_at old.half.sets set) (disk_at new.half.sets set)
   pub left : IsReceiverInStep sound old → LeavesAll old.half.sets true old.below new.below
       → (kept : Sets) → StandsFor new (with_bits (receiver_of kept old) (marked marks))
-  pub restored : IsReceiverInStep sound old → (bytes : List ℕ) → IsGiven old.half marks bytes
+  pub restored : IsReceiverInStep sound old → (bytes : List ℕ) → IsGiven old.half.sets old.half.note marks bytes
       → RestoresAll old.half.sets marks bytes true old.below new.below
       → (kept : Sets) → IsRestoredTo (StandsFor new) (receiver_of kept old) marks
   pub step : sound_new → IsReceiverInStep sound old → IsReceiverInStep sound_new new
@@ -121,7 +67,7 @@ pub record FailsInErrand (sound : Type 0) (old : ReceiverHeld) (marks : List Mar
   pub spared : (set : ℕ) → IsSpared (disk_at old.half.sets set) (disk_at new.half.sets set)
   pub left : IsReceiverInStep sound old → LeavesAll old.half.sets false old.below new.below
       → (kept : Sets) → Finds (parts_of new) (with_bits (receiver_of kept old) (marked marks))
-  pub restored : IsReceiverInStep sound old → (bytes : List ℕ) → IsGiven old.half marks bytes
+  pub restored : IsReceiverInStep sound old → (bytes : List ℕ) → IsGiven old.half.sets old.half.note marks bytes
       → RestoresAll old.half.sets marks bytes false old.below new.below
       → (kept : Sets) → IsRestoredTo (Finds (parts_of new)) (receiver_of kept old) marks
 
@@ -143,4 +89,4 @@ Restores sound sound_new old marks (Err why) new = IsInSession old why new ⊎ I
 
 -- the errand ran, by its own relation, of a half in no session; or it did not, and nothing came to it nor to what lies below
 abbrev pub RunsOnce : (List ℕ → Type 0) → ReceiverHalf → List Mark → Bool → Type 0 → Type 0
-RunsOnce ran h marks ok untouched = ((ok ≡ false) × untouched) ⊎ ((is_session (state_in h.note) ≡ false) × RanWith ran h marks)
+RunsOnce ran h marks ok untouched = ((ok ≡ false) × untouched) ⊎ ((is_session (state_in h.note) ≡ false) × RanWith ran h.sets h.note marks)

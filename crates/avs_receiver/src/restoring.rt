@@ -3,9 +3,10 @@ ghost use Rattle.std.specs.Prelude.{◌≡◌, false, is_ok};
 ghost use Rattle.avs_mirrors.specs.Half.{is_session};
 ghost use Rattle.avs_sync.specs.Note.{IsNote, NoteKeeps};
 ghost use Rattle.avs_halves.specs.Marks.{AreMarks};
+ghost use Rattle.avs_halves.specs.Restoring.{IsRestoringNote, RanWith};
 ghost use Rattle.avs_receiver.specs.Held.{seen_of};
 ghost use Rattle.avs_receiver.specs.Meaning.{state_in};
-ghost use Rattle.avs_receiver.specs.Restoring.{IsRestoringNote, MayRestore, RanWith, Restores, RestoresNoted, RunsErrand, RunsOnce};
+ghost use Rattle.avs_receiver.specs.Restoring.{MayRestore, Restores, RestoresNoted, RunsErrand, RunsOnce};
 ghost use Rattle.avs_receiver.specs.Slots.{HaveSlots};
 
 use crate::half::Half;
@@ -32,7 +33,7 @@ impl<D: Disk> Half<D> {
     fn restored_note(&self, marks: &[(u32, SegList)]) -> Note
         requires marks { AreMarks self.now.sets marks.now }
         requires slots { HaveSlots self.now.sets }
-        ensures note { IsRestoringNote self.now marks.now result }
+        ensures note { IsRestoringNote self.now.sets self.now.note marks.now result }
         ensures keeps { NoteKeeps result }
     {
         Note {
@@ -53,7 +54,7 @@ impl<D: Disk, B: Below> Receiver<D, B> {
         requires errand { MayRestore B.seen (E.ran errand.old self.old.below) self.old marks.now }
         ensures runs { RunsErrand (seen_of B.seen self.old) marks.now result (seen_of B.seen self.new) }
         ensures ran { RanWith (λ bytes. E.ran errand.old self.old.below bytes (is_ok result) errand.new self.new.below)
-            self.old.half marks.now }
+            self.old.half.sets self.old.half.note marks.now }
     {
         let note = self.half.restored_note(marks);
         let bytes = bytes_of(&note);

@@ -1,5 +1,5 @@
 use Rattle.std.proofs.Common.{◌∙◌, inr, true, false, sym, refl}
-use Rattle.avs_receiver.proofs.Errands.{over_run, same_bytes}
+use Rattle.avs_halves.proofs.Errands.{over_run, same_bytes}
 use Rattle.avs_receiver.proofs.receiver.Receiver.restore_by.Goals as goal
 
 pub invariant_of-self : goal.invariant_of-self

@@ -1,6 +1,6 @@
 use Rattle.std.proofs.Common.{inr, true}
 use Rattle.std.proofs.lemmas.Result.{err_from_is_err_and}
-use Rattle.avs_receiver.proofs.Errands.{ran_noted}
+use Rattle.avs_halves.proofs.Errands.{ran_noted}
 use Rattle.avs_receiver.proofs.Restorings.{bits_failed, noted_then}
 use Rattle.avs_receiver.proofs.receiver.Receiver.restore_noted.Goals as goal
 
@@ -25,4 +25,4 @@ pub returns-clause-ran : goal.returns-clause-ran
 returns-clause-ran g c =
     let near = rw (← c.self.view_is) at c.requires.away in
     let away = rw (← c.self-inside.view_is) at near in
-    rw (← c.self.view_is, ← c.self-inside.view_is) (inr (away, ran_noted _ true _ c.note_marks.new.sets _ c.in_ok-note_marks.ensures _ c.args.marks.now c.restore_by.ensures.ran))
+    rw (← c.self.view_is, ← c.self-inside.view_is) (inr (away, ran_noted _ true _ c.note_marks.new.sets _ c.in_ok-note_marks.ensures _ _ c.args.marks.now c.restore_by.ensures.ran))
