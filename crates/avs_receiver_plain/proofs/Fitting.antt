@@ -39,12 +39,14 @@ module _ (below : BelowSeen) (parts : List MirrorSet) where
     pub two_loadable : AreLoadable below parts
     two_loadable = record { some = omega (arith, two.count); few = omega (arith, two.count); own = λ set is. pick (λ (t : ℕ). HasOwn below parts t) first_own second_own set (is_two set is) }
 
-    pub two_sized : ArePartsSized (72 ∷ 6 ∷ []) below parts
+    pub two_sized : ArePartsSized (72 ∷ 6 ∷ []) (2 ∷ 0 ∷ []) below parts
     two_sized = record {
       count = two.count;
       over = record {
         there = pick (λ (t : ℕ). (part_at parts t).vol < length below.sizes) (omega (arith, two.first_vol, three.count)) (omega (arith, two.second_vol, three.count));
         size = pick (λ (t : ℕ). size_of below (part_at parts t).vol ≡ get_or (72 ∷ 6 ∷ []) t 0) (ap (λ (v : ℕ). size_of below v) two.first_vol ∙ three.first_size) (ap (λ (v : ℕ). size_of below v) two.second_vol ∙ three.second_size);
+        own = λ t other is also eq. (two_loadable.own t (subst (λ (n : ℕ). t < n) (sym two.count) is)).volume other (subst (λ (n : ℕ). other < n) (sym two.count) also) eq;
+        is = pick (λ (t : ℕ). (part_at parts t).vol ≡ get_or (2 ∷ 0 ∷ []) t 0) two.first_vol two.second_vol;
         apart = pick (λ (t : ℕ). (part_at parts t).vol ≢ 1) (λ same. omega (arith, same, two.first_vol)) (λ same. omega (arith, same, two.second_vol));
       };
     }
@@ -68,12 +70,14 @@ module _ (below : BelowSeen) (parts : List MirrorSet) where
     pub one_loadable : AreLoadable below parts
     one_loadable = record { some = omega (arith, one.count); few = omega (arith, one.count); own = λ set is. subst (λ (t : ℕ). HasOwn below parts t) (sym (is_first set is)) own_alone }
 
-    pub one_sized : ArePartsSized (64 ∷ []) below parts
+    pub one_sized : ArePartsSized (64 ∷ []) (0 ∷ []) below parts
     one_sized = record {
       count = one.count;
       over = record {
         there = alone (λ (t : ℕ). (part_at parts t).vol < length below.sizes) (omega (arith, one.vol, volume.count));
         size = alone (λ (t : ℕ). size_of below (part_at parts t).vol ≡ get_or (64 ∷ []) t 0) (ap (λ (v : ℕ). size_of below v) one.vol ∙ volume.size_is);
+        own = λ t other is also eq. (one_loadable.own t (subst (λ (n : ℕ). t < n) (sym one.count) is)).volume other (subst (λ (n : ℕ). other < n) (sym one.count) also) eq;
+        is = alone (λ (t : ℕ). (part_at parts t).vol ≡ get_or (0 ∷ []) t 0) one.vol;
         apart = alone (λ (t : ℕ). (part_at parts t).vol ≢ 1) (λ same. omega (arith, same, one.vol));
       };
     }

@@ -1,2 +1,3 @@
 pub mod Sizing
 pub mod Fitting
+pub mod Restoring

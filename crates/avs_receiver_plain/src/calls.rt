@@ -1,13 +1,13 @@
 // A receiver over sets of known sizes, and each call on it.
-ghost use Rattle.std.specs.Prelude.{◌≡◌, ◌*◌, ◌/◌, ◌<◌, ◌≤◌, IfOk, IsTrue, false, length};
+ghost use Rattle.std.specs.Prelude.{◌≡◌, ◌+◌, ◌-◌, ◌*◌, ◌/◌, ◌^◌, ◌<◌, ◌≤◌, ◌∷◌, [], IfOk, IsTrue, false, length, slice_index};
 ghost use Rattle.avs_dev.specs.Bare.{below_of};
 ghost use Rattle.avs_mirrors.specs.Entries.{is_mark};
 ghost use Rattle.avs_land.specs.Landed.{IsEntry};
 ghost use Rattle.avs_halves.specs.Over.{AreLoadable};
 ghost use Rattle.avs_receiver.specs.Held.{seen_of};
-ghost use Rattle.avs_receiver_plain.specs.Sized.{ArePartsSized, IsSized, LieIn};
+ghost use Rattle.avs_receiver_plain.specs.Sized.{ArePartsSized, IsSized, LieIn, ends};
 
-use crate::errands::{Look, Scribble};
+use crate::errands::{Look, Restore, Scribble};
 use crate::steps::{Came, Put, Range};
 use avs_dev::{Back, Bare, MemDisk, Tear};
 use avs_model::{Blocks, Entry, EntryKind, Refusal, State};
@@ -27,7 +27,8 @@ pub type Closed = HalfClosed<MemDisk, Bare<MemDisk>>;
 pub struct Half {
     receiver: Receiver<MemDisk, Bare<MemDisk>>,
     sizes: Vec<u32>,
-    ghost sized: { IsSized sizes.items (seen_of below_of receiver) },
+    vols: Vec<u32>,
+    ghost sized: { IsSized sizes.items vols.items (seen_of below_of receiver) },
 }
 
 fn done(answer: Result<(), Refusal>) -> Came {
@@ -68,6 +69,18 @@ fn entry_of(alloc: Global, kind: EntryKind, range: Range) -> Result<Entry, NoMem
     })
 }
 
+// The segments of the first and of the last block.
+fn ends_of(alloc: Global, range: Range) -> Result<SegList, NoMemory>
+    requires some { 0 < range.count }
+    requires fits { range.at + range.count < 2 ^ 32 }
+    ensures { IfOk result (λ l. l ≡ range.at / 64 ∷ ((range.at + range.count - 1) / 64) ∷ []) }
+{
+    let mut ends = SegList::new(alloc);
+    ends.push(range.at / 64)?;
+    ends.push((range.at + range.count - 1) / 64)?;
+    Ok(ends)
+}
+
 // A mark has none.
 const NOTHING: Range = Range {
     set: 0,
@@ -77,13 +90,22 @@ const NOTHING: Range = Range {
 };
 
 impl Half {
-    /// The receiver of these parts.
-    pub fn load(alloc: Global, parts: Parts, sizes: Vec<u32>) -> Result<Half, Closed>
+    /// The receiver of these parts, whose sets have these volumes of these sizes.
+    pub fn load(
+        alloc: Global,
+        parts: Parts,
+        sizes: Vec<u32>,
+        vols: Vec<u32>,
+    ) -> Result<Half, Closed>
         requires loadable { AreLoadable (below_of parts.below) parts.sets }
-        requires sized { ArePartsSized sizes.items (below_of parts.below) parts.sets }
+        requires sized { ArePartsSized sizes.items vols.items (below_of parts.below) parts.sets }
     {
         let receiver = Receiver::load(alloc, parts)?;
-        Ok(Half { receiver, sizes })
+        Ok(Half {
+            receiver,
+            sizes,
+            vols,
+        })
     }
 
     pub fn into_parts(self) -> Parts {
@@ -103,7 +125,8 @@ impl Half {
 
     // Whether blocks lie in the volume of a set.
     fn has(&self, range: Range) -> bool
-        ensures { IsTrue result → LieIn self.now.sizes.items range.set range.at range.count }
+        ensures lies { IsTrue result → LieIn self.now.sizes.items range.set range.at range.count }
+        ensures fits { IsTrue result → range.at + range.count < 2 ^ 32 }
     {
         match self.sizes.get(range.set as usize) {
             Some(size) => range.at <= *size && range.count <= *size - range.at,
@@ -172,6 +195,50 @@ impl Half {
         }
         match bytes_of(alloc, range) {
             Ok(bytes) => self.write_bytes(range, &bytes),
+            Err(NoMemory) => Came::Barred,
+        }
+    }
+
+    fn restore_marked(
+        &mut self,
+        marks: &[(u32, SegList)],
+        range: Range,
+        errand: &mut Restore,
+    ) -> Came
+        requires marks { marks.now ≡ ends range.set range.at range.count }
+        requires lies { LieIn self.old.sizes.items range.set range.at range.count }
+        requires some { 0 < range.count }
+        requires few { range.count ≤ 64 }
+        requires vol { errand.old.vol ≡ slice_index self.old.vols.items range.set }
+        requires at { errand.old.at ≡ range.at }
+        requires bytes { length errand.old.bytes.items / 512 ≡ range.count }
+    {
+        done(self.receiver.restore(marks, errand))
+    }
+
+    // Whether an errand is on these blocks.
+    fn is_on(&self, range: Range, errand: &Restore) -> bool
+        ensures vol { IsTrue result → errand.now.vol ≡ slice_index self.now.vols.items range.set }
+        ensures at { IsTrue result → errand.now.at ≡ range.at }
+        ensures bytes { IsTrue result → length errand.now.bytes.items / 512 ≡ range.count }
+    {
+        match self.vols.get(range.set as usize) {
+            Some(vol) => {
+                *vol == errand.vol
+                    && range.at == errand.at
+                    && errand.bytes.len() == BLOCK * range.count as usize
+            }
+            None => false,
+        }
+    }
+
+    /// Restores a set by an errand on these blocks of it, with their segments marked.
+    pub fn restore(&mut self, alloc: Global, range: Range, errand: &mut Restore) -> Came {
+        if range.count == 0 || range.count > 64 || !self.has(range) || !self.is_on(range, errand) {
+            return Came::Barred;
+        }
+        match ends_of(alloc, range) {
+            Ok(ends) => self.restore_marked(&[(range.set, ends)], range, errand),
             Err(NoMemory) => Came::Barred,
         }
     }

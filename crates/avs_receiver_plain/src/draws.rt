@@ -63,11 +63,20 @@ fn any_tear(seed: &mut u64) -> Step {
     Step::Tear(spot, draw(seed, 6), draw(seed, 3), draw(seed, 5))
 }
 
-// In a session it mostly goes on, and in none it is mostly written.
+// What is done in no session.
+fn any_local(seed: &mut u64) -> Step {
+    match draw(seed, 8) {
+        0 | 1 => Step::Restore(any_range(seed, 64)),
+        2 => Step::Leave(any_range(seed, 64)),
+        _ => Step::Write(any_range(seed, 72)),
+    }
+}
+
+// In a session it mostly goes on, and in none it is mostly written or restored.
 fn any_usual(seed: &mut u64, plain: &Plain) -> Step {
     let is_away = plain.state == State::Logging;
     if is_away == (draw(seed, 8) > 0) {
-        return Step::Write(any_range(seed, 72));
+        return any_local(seed);
     }
     any_apply(seed, plain)
 }

@@ -8,6 +8,9 @@ use avs_sync::{Note, Session};
 /// The blocks of the sets' volumes: two segments, of which the last has eight blocks, and one of six.
 pub const SIZES: [u32; 2] = [72, 6];
 
+/// The volumes below that they are.
+pub const VOLS: [u32; 2] = [2, 0];
+
 /// The slots of the sets in the note, and what it says of the slots of others.
 pub const SLOTS: [u32; 2] = [3, 0];
 
@@ -226,12 +229,35 @@ impl Plain {
         (Came::Done, self.with_bits(range).with_blocks(range))
     }
 
+    /// A set has contents.
+    pub fn filled(&self, set: u32) -> Plain {
+        let mut new = *self;
+        if set < 2 {
+            new.contents[set as usize] = true;
+        }
+        new
+    }
+
+    fn restore(&self, range: Range, is_put: bool) -> (Came, Plain) {
+        if self.state != State::Logging {
+            let why = Refusal::WrongState(word(self.state));
+            return (Came::Refused(why), *self);
+        }
+        let noted = self.with_bits(range);
+        if !is_put {
+            return (Came::Done, noted);
+        }
+        (Came::Done, noted.filled(range.set).with_blocks(range))
+    }
+
     /// What comes of a step, and what it stands for then.
     pub fn after(&self, step: Step) -> (Came, Plain) {
         match step {
             Step::Ask(session) => self.ask(session),
             Step::Apply(session, place, put) => self.apply(session, place, put),
             Step::Write(range) => self.write(range),
+            Step::Restore(range) => self.restore(range, true),
+            Step::Leave(range) => self.restore(range, false),
             Step::Log | Step::Load | Step::Tear(..) => (Came::Done, self.left()),
         }
     }

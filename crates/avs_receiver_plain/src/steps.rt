@@ -49,6 +49,9 @@ pub enum Step {
     Apply(u64, u64, Put),
     Log,
     Write(Range),
+    /// Blocks of a set are restored by an errand, which gives them this byte, or which does nothing.
+    Restore(Range),
+    Leave(Range),
     /// It is taken apart, and found again.
     Load,
     /// The same, and in between a tear is armed on a disk: after so many further writes of it the next one stores so many of

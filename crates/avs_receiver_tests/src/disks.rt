@@ -9,7 +9,7 @@ use avs_dev::{Arm, Back, Bare, Below, Disk, MemDisk, Tear, Why};
 use avs_land::Land;
 use avs_model::{HalfRole, Host, State};
 use avs_receiver_plain::calls::{Half, Parts};
-use avs_receiver_plain::plain::{Plain, SIZES, SLOTS};
+use avs_receiver_plain::plain::{Plain, SIZES, SLOTS, VOLS};
 use avs_receiver_plain::steps::Spot;
 use avs_seg::BLOCK;
 use avs_sync::{HalfParts, HalfSet, HalfSets, Note};
@@ -161,7 +161,7 @@ fn sets(rt: &impl Abort, alloc: Global, first: MemDisk, second: MemDisk) -> Half
 /// The parts of a half on these disks.
 fn parts(rt: &impl Abort, alloc: Global, disks: Disks) -> Parts
     ensures loadable { AreLoadable (below_of result.below) result.sets }
-    ensures sized { ArePartsSized (72 ∷ 6 ∷ []) (below_of result.below) result.sets }
+    ensures sized { ArePartsSized (72 ∷ 6 ∷ []) (2 ∷ 0 ∷ []) (below_of result.below) result.sets }
 {
     let Disks {
         host,
@@ -224,7 +224,8 @@ pub fn apart(rt: &impl Abort, parts: Parts) -> Disks {
 /// The receiver on these disks, or they are handed back with the cause.
 pub fn load(rt: &impl Abort, alloc: Global, disks: Disks) -> Result<Half, (Disks, Why)> {
     let sizes = Vec::from_array(alloc, SIZES).expect(rt, "memory");
-    match Half::load(alloc, parts(rt, alloc, disks), sizes) {
+    let vols = Vec::from_array(alloc, VOLS).expect(rt, "memory");
+    match Half::load(alloc, parts(rt, alloc, disks), sizes, vols) {
         Ok(half) => Ok(half),
         Err(Back { parts, why }) => Err((apart(rt, parts), why)),
     }

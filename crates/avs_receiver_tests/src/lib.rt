@@ -14,6 +14,8 @@ mod play;
 #[cfg(test)]
 mod records;
 #[cfg(test)]
+mod restoring;
+#[cfg(test)]
 mod runs;
 #[cfg(test)]
 mod stops;

@@ -4,7 +4,7 @@ use crate::checks::{check, written};
 use crate::disks::{new_disks, same};
 use crate::play::{Run, new_run, play, run_on, step};
 use Put::{Copy, Mark};
-use Step::{Apply, Ask, Load, Log, Write};
+use Step::{Apply, Ask, Leave, Load, Log, Restore, Write};
 use avs_dev::{Arm, Tear};
 use avs_model::Host;
 use avs_receiver_plain::errands::Scribble;
@@ -52,7 +52,10 @@ fn each_step_writes_its_blocks(rt: HostRuntime) {
         (Log, [0; 8]),
         (Write(of(1, 0, 6, 0x55)), [0, 6, 0, 0, 0, 1, 0, 0]),
         (Load, [0; 8]),
+        (Restore(of(0, 62, 4, 0x66)), [1, 0, 0, 4, 2, 0, 0, 0]),
+        (Leave(of(0, 62, 4, 0x77)), [0; 8]),
         (Ask(2), [1, 0, 0, 0, 0, 0, 0, 0]),
+        (Restore(of(0, 62, 4, 0x77)), [0; 8]),
         (Load, [1, 0, 0, 0, 0, 0, 0, 0]),
     ] {
         let before = blocks(&rt, &mut run);

@@ -6,9 +6,10 @@ use avs_code::get_land_header;
 use avs_dev::{Tear, Why};
 use avs_model::{Host, Refusal};
 use avs_receiver_plain::calls::Half;
-use avs_receiver_plain::plain::{Image, Plain, touched};
+use avs_receiver_plain::errands::restoring;
+use avs_receiver_plain::plain::{Image, Plain, VOLS};
 use avs_receiver_plain::steps::{Came, Range, Spot, Step};
-use avs_sync::get_note;
+use avs_sync::{Note, get_note};
 use std::alloc::Global;
 use std::process::Abort;
 
@@ -55,13 +56,13 @@ fn again(rt: &impl Abort, alloc: Global, mut disks: Disks) -> (Half, u32) {
     panic!(rt; "it is found")
 }
 
-// The session of the note that lies on the disks.
-fn noted(rt: &impl Abort, disks: &mut Disks) -> u64 {
+// The note that lies on the disks.
+fn noted(rt: &impl Abort, disks: &mut Disks) -> Note {
     let block = block(rt, &mut disks.state, 1);
     let mut note = [0; 64];
     note.copy_from_slice(&block[400..464]);
     match get_note(&note) {
-        Ok(note) => note.session,
+        Ok(note) => note,
         Err(_) => panic!(rt; "a note"),
     }
 }
@@ -74,11 +75,20 @@ fn landed(rt: &impl Abort, disks: &mut Disks) -> (u64, u64) {
     }
 }
 
-// What a half is found as behind a step that was stopped: it was asked exactly where the note says so, and a place was
-// applied exactly where it has landed.
+// What a half is found as behind a step that was stopped: it was asked, and a restored set has contents, exactly where the
+// note says so, and a place was applied exactly where it has landed.
 fn settled(rt: &impl Abort, plain: &Plain, torn: Option<Step>, disks: &mut Disks) -> Plain {
     match torn {
-        Some(Step::Ask(session)) if noted(rt, disks) == session => plain.asked(session),
+        Some(Step::Ask(session)) if noted(rt, disks).session == session => plain.asked(session),
+        Some(Step::Restore(range)) => {
+            let filled = plain.filled(range.set);
+            let is_set = filled.note() != plain.note() && noted(rt, disks) == filled.note();
+            if is_set {
+                filled.with_bits(range)
+            } else {
+                *plain
+            }
+        }
         Some(Step::Apply(session, place, put)) if landed(rt, disks) == (session, place) => {
             plain.with_next(put)
         }
@@ -108,6 +118,29 @@ fn torn_write(rt: &impl Abort, alloc: Global, run: &mut Run, range: Range) {
     }
 }
 
+// A restoration that was stopped has all bits where the note is the one that it was to set, and then each block old or new. Where
+// the set had contents before, that note says nothing new.
+fn torn_restore(rt: &impl Abort, alloc: Global, run: &mut Run, range: Range) {
+    let is_noted = run.plain.contents[range.set as usize % 2];
+    torn_leave(rt, alloc, run, range);
+    if is_noted {
+        torn_write(rt, alloc, run, range);
+    }
+}
+
+// One of which the note is the old one has some of the bits.
+fn torn_leave(rt: &impl Abort, alloc: Global, run: &mut Run, range: Range) {
+    let found = bits(rt, alloc, &run.half);
+    let all = run.plain.with_bits(range).due;
+    for set in 0..2 {
+        for seg in 0..2 {
+            assert!(rt; run.plain.due[set][seg] <= found[set][seg]);
+            assert!(rt; found[set][seg] <= all[set][seg]);
+        }
+    }
+    run.plain.due = found;
+}
+
 // It is taken apart, a tear is armed or none, and it is found again.
 fn found(rt: &impl Abort, alloc: Global, run: Run, tear: Option<(Spot, Tear)>) -> Run {
     let Run {
@@ -130,19 +163,44 @@ fn found(rt: &impl Abort, alloc: Global, run: Run, tear: Option<(Spot, Tear)>) -
         looks,
         torn: None,
     };
-    if let Some(Step::Write(range)) = torn {
-        torn_write(rt, alloc, &mut run, range);
+    match torn {
+        Some(Step::Write(range)) => torn_write(rt, alloc, &mut run, range),
+        Some(Step::Restore(range)) => torn_restore(rt, alloc, &mut run, range),
+        Some(Step::Leave(range)) => torn_leave(rt, alloc, &mut run, range),
+        _ => {}
     }
     check(rt, alloc, &mut run.half, &mut run.looks, &run.plain);
     run
 }
 
-fn act(alloc: Global, half: &mut Half, step: Step) -> Came {
+// The errand runs once where it is done, with a note in which its set has contents.
+fn restore(rt: &impl Abort, alloc: Global, run: &mut Run, range: Range, is_idle: bool) -> Came {
+    assert!(rt; range.count <= 64);
+    let vol = VOLS[range.set as usize % 2];
+    let mut errand = restoring(alloc, vol, range, is_idle).expect(rt, "memory");
+    let came = run.half.restore(alloc, range, &mut errand);
+    if came == Came::Done {
+        same(rt, errand.runs, 1);
+        match get_note(&errand.given) {
+            Ok(note) => same(rt, note, run.plain.filled(range.set).note()),
+            Err(_) => panic!(rt; "a note"),
+        }
+    }
+    if matches!(came, Came::Refused(Refusal::WrongState(_))) {
+        same(rt, errand.runs, 0);
+    }
+    came
+}
+
+fn act(rt: &impl Abort, alloc: Global, run: &mut Run, step: Step) -> Came {
+    let half = &mut run.half;
     match step {
         Step::Ask(session) => half.ask(session),
         Step::Apply(session, place, put) => half.apply(alloc, session, place, put),
         Step::Log => half.log(),
         Step::Write(range) => half.write(alloc, range),
+        Step::Restore(range) => restore(rt, alloc, run, range, false),
+        Step::Leave(range) => restore(rt, alloc, run, range, true),
         Step::Load | Step::Tear(..) => Came::Barred,
     }
 }
@@ -151,7 +209,7 @@ fn act(alloc: Global, half: &mut Half, step: Step) -> Came {
 fn call(rt: &impl Abort, alloc: Global, run: &mut Run, step: Step) {
     let before = written(rt, &mut run.half, &mut run.looks);
     let (want, next) = run.plain.after(step);
-    let came = act(alloc, &mut run.half, step);
+    let came = act(rt, alloc, run, step);
     if came == Came::Refused(Refusal::Fault) {
         run.stops = run.stops.saturating_add(1);
         run.torn = Some(step);

@@ -38,7 +38,7 @@ fn set(rt: &impl Abort, alloc: Global) -> HalfSets<MemDisk>
 
 fn parts(rt: &impl Abort, alloc: Global) -> Parts
     ensures loadable { AreLoadable (below_of result.below) result.sets }
-    ensures sized { ArePartsSized (64 ∷ []) (below_of result.below) result.sets }
+    ensures sized { ArePartsSized (64 ∷ []) (0 ∷ []) (below_of result.below) result.sets }
 {
     HalfParts {
         host: Host::S,
@@ -51,7 +51,8 @@ fn parts(rt: &impl Abort, alloc: Global) -> Parts
 
 fn half(rt: &impl Abort, alloc: Global) -> Half {
     let sizes = Vec::from_array(alloc, [64]).expect(rt, "memory");
-    match Half::load(alloc, parts(rt, alloc), sizes) {
+    let vols = Vec::from_array(alloc, [0]).expect(rt, "memory");
+    match Half::load(alloc, parts(rt, alloc), sizes, vols) {
         Ok(half) => half,
         Err(_) => panic!(rt; "a receiver"),
     }
