@@ -163,7 +163,7 @@ due_noted keys h sets x c inside off = fun_ext (λ t. fun_ext (λ seg.
         off_is b k is = ap (λ (x : Bool). cond x k 0) is
 
 -- the images that are found are those of the sets
-images_parts : (new : BelowSeen) (g : SenderHalf) → images_found (parts_of (held new g)) ≡ images_in g.sets new.images
+pub images_parts : (new : BelowSeen) (g : SenderHalf) → images_found (parts_of (held new g)) ≡ images_in g.sets new.images
 images_parts new g = λ i. λ t. cond (there_is g.sets t i) (get_or new.images (part_is g.sets t i).vol []) []
 
 -- ---- the write

@@ -38,7 +38,7 @@ stays_same sound h = record {
 pub none_failed : (h : SenderHeld) → NoneFailed h h
 none_failed h = record { faults = refl; armed = refl; sets = λ set. spared_same (set_at h.half.sets set).bits.disk }
 
-logging_is : (s : State) → is_session s ≡ false → s ≡ Logging
+pub logging_is : (s : State) → is_session s ≡ false → s ≡ Logging
 logging_is Logging off = refl
 logging_is Syncing off = cc
 logging_is Receiving off = cc

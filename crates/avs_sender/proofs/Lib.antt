@@ -20,3 +20,4 @@ pub mod PlacedWrites
 pub mod Admittings
 pub mod PlacedCopies
 pub mod Copyings
+pub mod Restorings

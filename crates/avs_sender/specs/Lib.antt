@@ -20,3 +20,4 @@ pub mod Beginning
 pub mod Placing
 pub mod Admitting
 pub mod Copying
+pub mod Restoring

@@ -1,5 +1,5 @@
 //! The sending half of a mirror group: it is found on its parts, begins a session, takes writes, copies, learns that places were
-//! applied, and leaves.
+//! applied, leaves, and is restored.
 #![tactic(auto)]
 
 mod admitting;
@@ -16,6 +16,7 @@ mod lending;
 mod loading;
 mod noting;
 mod parts;
+mod restoring;
 mod sender;
 mod ticking;
 mod tracked;
