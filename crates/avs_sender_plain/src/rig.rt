@@ -13,7 +13,7 @@ use avs_dev::{Back, Bare, Below, Disk, Errand, MemDisk, Tear, Why};
 use avs_halves::is_session;
 use avs_model::{Entry, Host, Limits, Refusal, State};
 use avs_seg::{BLOCK, Failed, NoMemory, SegList};
-use avs_sender::{Admitted, Sender, Settled};
+use avs_sender::{Admitted, Sender, Settled, SyncStep};
 use avs_sync::{HalfParts, HalfSet, HalfSets, NOTE, Session};
 use std::alloc::Global;
 
@@ -264,6 +264,19 @@ impl Rig {
         }
     }
 
+    fn sync(&mut self, alloc: Global) -> Came {
+        if self.sender.session().last >= 1 << 62 {
+            return Came::Barred;
+        }
+        match self.sender.sync_step(alloc) {
+            Ok(SyncStep::Copied { place, set, seg }) => Came::Copied(place, set, seg),
+            Ok(SyncStep::Mark(place)) => Came::Marked(place),
+            Ok(SyncStep::Idle) => Came::Idle,
+            Ok(SyncStep::Logged) => Came::Logged,
+            Err(why) => Came::Refused(why),
+        }
+    }
+
     fn tick(&mut self, applied: u64) -> Came {
         match self.sender.tick(applied) {
             Ok(known) => Came::Known(known),
@@ -290,7 +303,8 @@ impl Rig {
             Call::Log => self.log(),
             Call::Broken => self.broken(),
             Call::Write(put) => self.write_to(alloc, &put),
-            Call::Sync | Call::Lend | Call::Crash => Came::Barred,
+            Call::Sync => self.sync(alloc),
+            Call::Lend | Call::Crash => Came::Barred,
         }
     }
 

@@ -12,6 +12,10 @@ mod loads;
 #[cfg(test)]
 mod plays;
 #[cfg(test)]
+mod runs;
+#[cfg(test)]
 mod stops;
 #[cfg(test)]
 mod torn;
+#[cfg(test)]
+mod worked;

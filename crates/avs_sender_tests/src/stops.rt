@@ -104,3 +104,43 @@ fn writes() -> [Call; 9] {
 fn writes_of_a_session_are_stopped_at_each_write(rt: HostRuntime) {
     each_stop(&rt, rt.alloc(), &writes(), [2, 3, 1, 6, 3, 0]);
 }
+
+// All writes of a session: both sets are copied, written behind their copies and before, and freed.
+fn session() -> [Call; 14] {
+    [
+        begin(1, false),
+        put(0, 62, 4, 0x11),
+        put(1, 60, 10, 0x22),
+        Call::Sync,
+        Call::Sync,
+        Call::Tick(3),
+        put(0, 100, 3, 0x33),
+        Call::Tick(4),
+        Call::Sync,
+        put(1, 1, 1, 0x44),
+        Call::Tick(6),
+        Call::Lend,
+        Call::Tick(7),
+        Call::Log,
+    ]
+}
+
+#[test]
+fn a_session_is_stopped_at_each_write(rt: HostRuntime) {
+    each_stop(&rt, rt.alloc(), &session(), [3, 2, 2, 6, 6, 0]);
+}
+
+// A volume fails at each of its calls, also at those that read.
+fn fails_on(rt: &impl Abort, alloc: Global, calls: &[Call], spot: Spot, count: u64) {
+    for number in 0..count {
+        let harm = Harm::Call(spot, number.saturating_add(1));
+        same(rt, play(rt, alloc, Host::P, calls, harm), 1);
+    }
+}
+
+#[test]
+fn a_session_is_stopped_where_a_volume_fails(rt: HostRuntime) {
+    let alloc = rt.alloc();
+    fails_on(&rt, alloc, &session(), Spot::Volume(0), 4);
+    fails_on(&rt, alloc, &session(), Spot::Volume(1), 4);
+}
