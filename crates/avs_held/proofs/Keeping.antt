@@ -17,7 +17,8 @@ use Rattle.avs_sets.specs.Steps.{read_over, IsKnown, KeepsRead, KeepsSet, ShowsS
 use Rattle.avs_sets.proofs.OwnSlots.{all_keeps, own_placed, all_takes}
 use Rattle.avs_held.specs.declared.held.Seat.{Seat}
 use Rattle.avs_held.specs.Held.{chunk_set}
-use Rattle.avs_over.specs.Over.{OverSet}
+use Rattle.avs_over.specs.Over.{OverSet, slots}
+use Rattle.avs_sets.specs.Owners.{IsServed}
 use Rattle.avs_held.specs.Rooms.{on_disks, IsOwned, KeepsOwned}
 use Rattle.avs_held.proofs.Told.{own_is, own_not_over}
 use Rattle.avs_held.proofs.Projected.{same_disk, all_spots, plain_read, states_are, read_is, behind_same}
@@ -147,10 +148,13 @@ chunks_owned seat s m o = record {
   taken = λ c slot lt some at. absurd (own_not_over c slot at);
 }
 
+pub chunks_served : (seat : Seat) (s : ChunkSet) (slots : ℕ) → IsServed slots (chunk_set seat s)
+chunks_served seat s slots = record { each = λ c slot lt some at. absurd (own_not_over c slot at) }
+
 module _ (seat : Seat) (s s' : ChunkSet) (m m' : Seen) (o : OverSet) where
   pub owned_kept : KeepsOwned (on_disks (chunk_set seat s) m o) (on_disks (chunk_set seat s') m' o)
   owned_kept = record {
-    served = λ owned served. record { each = λ c slot lt some at. absurd (own_not_over c slot at) };
+    served = λ owned served. chunks_served seat s' (slots o);
     owned = λ owned. chunks_owned seat s' m' o;
     takes = record { each = λ slot. inl refl };
     label = λ owned told. refl;

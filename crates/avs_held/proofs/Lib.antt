@@ -8,6 +8,7 @@ pub mod SlotStagings
 pub mod SlotAhead
 pub mod SlotCounted
 pub mod SlotArmed
+pub mod SlotRoom
 pub mod Keeping
 pub mod Room
 pub mod Settled

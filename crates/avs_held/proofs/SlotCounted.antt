@@ -1,7 +1,8 @@
 -- How many chunks of a compact set are in a list, and lack a slot.
-use Rattle.std.proofs.Common.{◌≡◌, ℕ, zero, suc, ◌+◌, ◌-◌, ◌*◌, ◌<◌, ◌≤◌, Bool, false, nat_lt, ◌&&◌, not, eqb, List, length, filter, Result, Ok, Err, IfOk, ◌∙◌, refl, ap, arith}
+use Rattle.std.proofs.Common.{◌≡◌, ℕ, zero, suc, ◌+◌, ◌-◌, ◌*◌, ◌<◌, ◌≤◌, Bool, false, nat_lt, ◌&&◌, not, eqb, List, length, filter, Result, Ok, Err, IfOk, inl, inr, ◌∙◌, sym, refl, ap, arith}
 use Rattle.std.specs.List.{range_with_len}
-use Rattle.std.proofs.lemmas.Bool.{lt-ltb}
+use Rattle.std.proofs.lemmas.Bool.{lt-ltb, cases_lt}
+use Rattle.avs_bits.specs.Bit.{bit_of}
 use Rattle.avs_model.specs.ShadowSets.{chunks_in}
 use Rattle.avs_entries.specs.Entries.{state_by}
 use Rattle.avs_entries.specs.Counting.{is_touched, count_of, is_in}
@@ -12,7 +13,7 @@ use Rattle.avs_chunks.specs.Staging.{told_by, part_end}
 use Rattle.avs_held.specs.declared.held.Seat.{Seat}
 use Rattle.avs_held.specs.Held.{compact_set}
 use Rattle.avs_held.specs.Counting.{told_lacking}
-use Rattle.avs_held.proofs.Told.{same_zero, in_map}
+use Rattle.avs_held.proofs.Told.{same_zero, in_map, past_map}
 use Rattle.avs_held.proofs.Slotted.{AreFormed, memory_map}
 use Rattle.avs_held.proofs.SlotCalls.{memory_state, filter_same}
 use Rattle.avs_held.proofs.SlotAhead.{ahead_is}
@@ -48,3 +49,11 @@ lacking_told seat s part bits = filter_same _ _ (2048 * part) (part_end (compact
 pub counted_as : {E : Type 0} (r : Result ℕ E) (a b : ℕ) → a ≡ b → IfOk r (λ n. n ≡ a) → IfOk r (λ n. n ≡ b)
 counted_as (Ok n) a b is e = e ∙ is
 counted_as (Err x) a b is e = tt
+
+-- the bits of a part tell which chunks are split, and behind the last chunk none
+pub tells_split : (s : CompactSet) (part : ℕ) (out : List ℕ) → AreFormed (entry_of s) (compact.chunks_of s) → ((i : ℕ) → i < 2048 → bit_of out i ≡ eqb (state_by (entry_of s (2048 * part + i))) 2)
+    → ((i : ℕ) → compact.chunks_of s ≤ 2048 * part + i → bit_of out i ≡ false) → (i : ℕ) → i < 2048 → bit_of out i ≡ eqb ((memory_map s).state (2048 * part + i)) 2
+tells_split s part out form bits behind i low = elim (cases_lt (2048 * part + i) (compact.chunks_of s)) [
+  | inl lt ↦ bits i low ∙ ap (λ (k : ℕ). eqb k 2) (sym (memory_state s form (2048 * part + i) lt))
+  | inr le ↦ behind i le ∙ ap (λ (k : ℕ). eqb k 2) (sym (past_map s.own (compact.chunks_of s) (entry_of s) (2048 * part + i) le))
+]

@@ -21,7 +21,7 @@ use Rattle.avs_sets.specs.Sets.{ChunkPlace, OwnSlot, OverSlot, ChunkMap, SetSeen
 use Rattle.avs_sets.specs.Meaning.{chunks_by}
 use Rattle.avs_sets.specs.Whole.{AreSame}
 use Rattle.avs_sets.specs.Steps.{SetSpot, OfMaster, OfShadow, OfBitmap, OfOver, set_disks, read_over, IsKnown}
-use Rattle.avs_sets.specs.Owners.{OwnsPlaces, IsServed}
+use Rattle.avs_sets.specs.Owners.{OwnsPlaces, IsServed, LacksSlot}
 use Rattle.avs_sets.proofs.Spots.{all_among}
 use Rattle.avs_held.specs.declared.held.Seat.{Seat}
 use Rattle.avs_held.specs.Held.{told_state, told_place, slot_place, slot_map, compact_set}
@@ -220,4 +220,14 @@ module _ (seat : Seat) (s : CompactSet) (o : OverSet) (form : AreFormed (entry_o
     each = λ c slot lt some at.
         let is = over_slot s.own (slot_by (entry_of s c)) slot (sym (place_is c lt) ∙ at) in
         subst (λ (n : ℕ). n < slots o) is.1 (t.each c lt (some_was c some) is.0);
+  }
+
+  pub lacks_set : calls.LacksSlot s o → LacksSlot (slots o) (compact_set seat s)
+  lacks_set l = record {
+    chunk = l.chunk;
+    slot = slot_by (entry_of s l.chunk) - s.own;
+    there = l.there;
+    some = some_now l.chunk l.there l.some;
+    at = place_is l.chunk l.there ∙ over_place s.own (slot_by (entry_of s l.chunk)) l.past;
+    lacks = l.lacks;
   }

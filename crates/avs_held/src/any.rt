@@ -1,9 +1,13 @@
 // A set of either kind.
-ghost use Rattle.std.specs.Prelude.{◌≡◌, ◌≤◌, ◌<◌, ◌^◌, None, Some, is_some};
+ghost use Rattle.std.specs.Prelude.{◌≡◌, ◌==◌, ℕ, ◌+◌, ◌*◌, ◌≤◌, ◌<◌, ◌^◌, IsTrue, not, IsOk, None, Some, is_some};
 ghost use Rattle.std.specs.Option.{option_map};
 ghost use Rattle.avs_model.specs.ShadowSets.{chunks_in};
-ghost use Rattle.avs_chunks.specs.States.{code_of};
-ghost use Rattle.avs_sets.specs.Sets.{chunks_of};
+ghost use Rattle.avs_bits.specs.Bit.{bit_of};
+ghost use Rattle.avs_chunks.specs.States.{code_of, area_len};
+ghost use Rattle.avs_over.specs.Over.{slots};
+ghost use Rattle.avs_compact.specs.CompactSet.{over_of};
+ghost use Rattle.avs_sets.specs.Sets.{split, chunks_of};
+ghost use Rattle.avs_sets.specs.Owners.{IsServed, LacksSlot};
 ghost use Rattle.avs_held.specs.Held.{lists_of, seen_of, slots_seen};
 ghost use Rattle.avs_held.specs.Arming.{ArmsOne, written_of};
 ghost use Rattle.avs_held.specs.Any.{FitsShadow, set_seen};
@@ -13,6 +17,8 @@ use crate::slots::HeldCompact;
 use avs_chunks::ChunkState;
 use avs_dev::{Arm, Disk, Tear};
 use avs_model::Kind;
+use avs_over::Over;
+use avs_seg::Failed;
 
 /// A set of either kind: each chunk has the slot of its number, or one that it takes. Each call that needs the master's
 /// disk or the overflow volume is given it.
@@ -136,6 +142,30 @@ impl<D: Disk> AnySet<D> {
         match self {
             AnySet::Chunks(set) => set.left(),
             AnySet::Compact(set) => set.left(),
+        }
+    }
+
+    /// Tells which chunks of a part are split: bit i stands for the i-th chunk. Bits behind the last chunk are zeros.
+    pub fn moved_part(&self, part: u32, out: &mut [u8; 256]) -> Result<(), Failed>
+        requires { part < area_len (chunks_of (set_seen self.now)) }
+        ensures ok { IsOk result }
+        ensures bits { (i : ℕ) → i < 2048 → bit_of out.new i ≡ ((set_seen self.now).memory.state (2048 * part + i) == split) }
+    {
+        match self {
+            AnySet::Chunks(set) => set.moved_part(part, out),
+            AnySet::Compact(set) => set.moved_part(part, out),
+        }
+    }
+
+    /// Whether the slots in which contents of the set stand are there, in this overflow volume: those of a set in chunks
+    /// always are.
+    pub fn is_served(&self, over: &Option<Over<D>>) -> bool
+        ensures served { IsTrue result → IsServed (slots (over_of over.now)) (set_seen self.now) }
+        ensures lacks { IsTrue (not result) → LacksSlot (slots (over_of over.now)) (set_seen self.now) }
+    {
+        match self {
+            AnySet::Chunks(set) => set.is_served(),
+            AnySet::Compact(set) => set.is_served(over),
         }
     }
 

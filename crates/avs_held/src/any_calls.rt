@@ -28,8 +28,9 @@ impl<D: Disk> AnySet<D> {
         requires blocks { (D.seen master.old).size ≡ (set_seen self.old).size.blocks }
         requires there { IsTrue (is_some (set_seen self.old).shadow) }
         requires served { IsServed (slots (over_of over.old)) (set_seen self.old) }
-        ensures { CopiesOne (on_disks (set_seen self.old) (D.seen master.old) (over_of over.old)) result
+        ensures copies { CopiesOne (on_disks (set_seen self.old) (D.seen master.old) (over_of over.old)) result
             (on_disks (set_seen self.new) (D.seen master.new) (over_of over.new)) }
+        ensures counts { OnOk result (CountsMore self.old (over_of over.old) 0 self.new (over_of over.new)) }
     {
         match self {
             AnySet::Chunks(set) => set.copy_one(master),
@@ -49,8 +50,9 @@ impl<D: Disk> AnySet<D> {
         requires blocks { (D.seen master.old).size ≡ (set_seen self.old).size.blocks }
         requires there { IsTrue (is_some (set_seen self.old).shadow) }
         requires served { IsServed (slots (over_of over.old)) (set_seen self.old) }
-        ensures { SettlesSet (on_disks (set_seen self.old) (D.seen master.old) (over_of over.old)) chunk on_both result
+        ensures settles { SettlesSet (on_disks (set_seen self.old) (D.seen master.old) (over_of over.old)) chunk on_both result
             (on_disks (set_seen self.new) (D.seen master.new) (over_of over.new)) }
+        ensures counts { OnOk result (CountsMore self.old (over_of over.old) 0 self.new (over_of over.new)) }
     {
         match self {
             AnySet::Chunks(set) => set.settle(master, chunk, ChunkState::OnBoth),
@@ -72,8 +74,9 @@ impl<D: Disk> AnySet<D> {
         requires blocks { (D.seen master.old).size ≡ (set_seen self.old).size.blocks }
         requires there { IsTrue (is_some (set_seen self.old).shadow) }
         requires served { IsServed (slots (over_of over.old)) (set_seen self.old) }
-        ensures { ReadsShadow (on_disks (set_seen self.old) (D.seen master.old) (over_of over.old)) at out.new result
+        ensures reads { ReadsShadow (on_disks (set_seen self.old) (D.seen master.old) (over_of over.old)) at out.new result
             (on_disks (set_seen self.new) (D.seen master.new) (over_of over.new)) }
+        ensures counts { CountsMore self.old (over_of over.old) 0 self.new (over_of over.new) }
     {
         match self {
             AnySet::Chunks(set) => set.read(master, at, out),
@@ -118,8 +121,9 @@ impl<D: Disk> AnySet<D> {
         requires there { IsTrue (is_some (set_seen self.old).shadow) }
         requires split { IsSplit (set_seen self.old) at (length bytes.now / 512) }
         requires served { IsServed (slots (over_of over.old)) (set_seen self.old) }
-        ensures { (m : Seen) → WritesShadow (on_disks (set_seen self.old) m (over_of over.old)) at bytes.now result
+        ensures writes { (m : Seen) → WritesShadow (on_disks (set_seen self.old) m (over_of over.old)) at bytes.now result
             (on_disks (set_seen self.new) m (over_of over.new)) }
+        ensures counts { CountsMore self.old (over_of over.old) 0 self.new (over_of over.new) }
     {
         match self {
             AnySet::Chunks(set) => set.put_shadow(at, bytes),

@@ -1,5 +1,5 @@
 // Updates of a set of either kind: chunks are copied ahead, states are staged, and one commit elsewhere makes them live.
-ghost use Rattle.std.specs.Prelude.{◌≡◌, ◌*◌, ◌<◌};
+ghost use Rattle.std.specs.Prelude.{◌≡◌, ◌*◌, ◌<◌, IsTrue, not, IsOk, IfOk};
 ghost use Rattle.avs_chunks.specs.States.{area_len};
 ghost use Rattle.avs_chunks.specs.Staging.{to_shadow, to_master, told_by, part_end};
 ghost use Rattle.avs_compact.specs.CompactSet.{over_of};
@@ -8,7 +8,7 @@ ghost use Rattle.avs_held.specs.Rooms.{on_disks};
 ghost use Rattle.avs_held.specs.Calls.{CanSave};
 ghost use Rattle.avs_held.specs.Counting.{told_lacking};
 ghost use Rattle.avs_held.specs.Staging.{StagesStates, CopiesTold, TurnsSet, split_state};
-ghost use Rattle.avs_held.specs.Any.{HasSlots, set_seen};
+ghost use Rattle.avs_held.specs.Any.{HasSlots, LacksSlots, set_seen};
 
 use crate::any::AnySet;
 use avs_dev::Disk;
@@ -16,6 +16,30 @@ use avs_over::Over;
 use avs_seg::Failed;
 
 impl<D: Disk> AnySet<D> {
+    /// Whether there is room for those chunks of a part that are told and stand on the master alone: of a set in chunks
+    /// there always is.
+    pub fn has_slots(
+        &self,
+        over: &Option<Over<D>>,
+        part: u32,
+        split: &[u8; 256],
+    ) -> Result<bool, Failed>
+        requires { part < area_len (chunks_of (set_seen self.now)) }
+        ensures ok { IsOk result }
+        ensures has { IfOk result (λ has. IsTrue has
+            → HasSlots self.now (over_of over.now) (told_lacking (set_seen self.now) part split.now)) }
+        ensures lacks { IfOk result (λ has. IsTrue (not has)
+            → LacksSlots self.now (over_of over.now) (told_lacking (set_seen self.now) part split.now)) }
+    {
+        match self {
+            AnySet::Chunks(set) => {
+                let _kind = set.kind();
+                Ok(true)
+            }
+            AnySet::Compact(set) => set.has_slots(over, part, split),
+        }
+    }
+
     /// Copies those chunks of a part ahead that are told and stand on the master alone. Their states stay. Bit i tells the
     /// i-th chunk of the part. A compact set has to have room for them.
     pub fn copy_part(

@@ -1,8 +1,9 @@
 // A set in its seat of a group.
-ghost use Rattle.std.specs.Prelude.{◌≡◌, ◌<◌, ◌≤◌, ◌^◌, false, None, Some, is_some};
+ghost use Rattle.std.specs.Prelude.{◌≡◌, ◌<◌, ◌≤◌, ◌^◌, ℕ, true, false, None, Some, is_some};
 ghost use Rattle.std.specs.Option.{option_map};
 ghost use Rattle.avs_model.specs.ShadowSets.{is_compact};
 ghost use Rattle.avs_sets.specs.Sets.{chunks_of};
+ghost use Rattle.avs_sets.specs.Owners.{IsServed};
 ghost use Rattle.avs_held.specs.Held.{HasRoom, chunk_set, seen_of};
 
 use avs_chunks::Chunks;
@@ -83,6 +84,15 @@ impl<D: Disk> HeldSet<D> {
         ensures { result ≡ is_some (seen_of self.now).shadow }
     {
         self.chunks.has_shadow()
+    }
+
+    // Whether its slots of an overflow volume are there: it has none.
+    pub(crate) fn is_served(&self) -> bool
+        ensures yes { result ≡ true }
+        ensures served { (slots : ℕ) → IsServed slots (seen_of self.now) }
+    {
+        let _seat = self.seat;
+        true
     }
 
     /// Takes the shadow's disk out, where it is there.

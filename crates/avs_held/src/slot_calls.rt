@@ -33,8 +33,9 @@ impl<D: Disk> HeldCompact<D> {
         requires blocks { (D.seen master.old).size ≡ (slots_seen self.old).size.blocks }
         requires there { IsTrue (is_some (slots_seen self.old).shadow) }
         requires served { IsServed (slots (over_of over.old)) (slots_seen self.old) }
-        ensures { SettlesSet (on_disks (slots_seen self.old) (D.seen master.old) (over_of over.old)) chunk on_both result
+        ensures settles { SettlesSet (on_disks (slots_seen self.old) (D.seen master.old) (over_of over.old)) chunk on_both result
             (on_disks (slots_seen self.new) (D.seen master.new) (over_of over.new)) }
+        ensures counts { OnOk result (CountsSlots self.old.slots (over_of over.old) 0 self.new.slots (over_of over.new)) }
     {
         self.compact.keeps_form();
         let settled = self.compact.bring_back(master, over, chunk);
@@ -78,8 +79,9 @@ impl<D: Disk> HeldCompact<D> {
         requires blocks { (D.seen master.old).size ≡ (slots_seen self.old).size.blocks }
         requires there { IsTrue (is_some (slots_seen self.old).shadow) }
         requires served { IsServed (slots (over_of over.old)) (slots_seen self.old) }
-        ensures { CopiesOne (on_disks (slots_seen self.old) (D.seen master.old) (over_of over.old)) result
+        ensures copies { CopiesOne (on_disks (slots_seen self.old) (D.seen master.old) (over_of over.old)) result
             (on_disks (slots_seen self.new) (D.seen master.new) (over_of over.new)) }
+        ensures counts { OnOk result (CountsSlots self.old.slots (over_of over.old) 0 self.new.slots (over_of over.new)) }
     {
         self.compact.keeps_form();
         let copied = self.compact.copy_one(master, over);
@@ -101,8 +103,9 @@ impl<D: Disk> HeldCompact<D> {
         requires blocks { (D.seen master.old).size ≡ (slots_seen self.old).size.blocks }
         requires there { IsTrue (is_some (slots_seen self.old).shadow) }
         requires served { IsServed (slots (over_of over.old)) (slots_seen self.old) }
-        ensures { ReadsShadow (on_disks (slots_seen self.old) (D.seen master.old) (over_of over.old)) at out.new result
+        ensures reads { ReadsShadow (on_disks (slots_seen self.old) (D.seen master.old) (over_of over.old)) at out.new result
             (on_disks (slots_seen self.new) (D.seen master.new) (over_of over.new)) }
+        ensures counts { CountsSlots self.old.slots (over_of over.old) 0 self.new.slots (over_of over.new) }
     {
         self.compact.keeps_form();
         self.compact.read(master, over, at, out)
@@ -121,8 +124,9 @@ impl<D: Disk> HeldCompact<D> {
         requires there { IsTrue (is_some (slots_seen self.old).shadow) }
         requires split { IsSplit (slots_seen self.old) at (length bytes.now / 512) }
         requires served { IsServed (slots (over_of over.old)) (slots_seen self.old) }
-        ensures { (m : Seen) → WritesShadow (on_disks (slots_seen self.old) m (over_of over.old)) at bytes.now result
+        ensures writes { (m : Seen) → WritesShadow (on_disks (slots_seen self.old) m (over_of over.old)) at bytes.now result
             (on_disks (slots_seen self.new) m (over_of over.new)) }
+        ensures counts { CountsSlots self.old.slots (over_of over.old) 0 self.new.slots (over_of over.new) }
     {
         self.compact.keeps_form();
         self.compact.put_shadow(over, at, bytes)
