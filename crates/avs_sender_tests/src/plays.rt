@@ -153,8 +153,14 @@ pub fn step(rt: &impl Abort, alloc: Global, one: Played, call: Call) -> (Played,
     (one, false)
 }
 
-/// How often calls on a new sender stop of which one disk fails. Behind a stop the same call is made once more.
-pub fn play(rt: &impl Abort, alloc: Global, host: Host, calls: &[Call], harm: Harm) -> u32 {
+/// Makes calls on a new sender of which one disk fails. Behind a stop the row goes on. How often calls stopped.
+pub fn play_row(
+    rt: &impl Abort,
+    alloc: Global,
+    host: Host,
+    calls: &[Call],
+    harm: Harm,
+) -> (Played, u32) {
     let mut one = new_sender(rt, alloc, host, harm);
     let mut stops = 0u32;
     for &call in calls {
@@ -164,6 +170,12 @@ pub fn play(rt: &impl Abort, alloc: Global, host: Host, calls: &[Call], harm: Ha
             stops = stops.saturating_add(1);
         }
     }
+    (one, stops)
+}
+
+/// The same, and then all that lies on the disks is compared.
+pub fn play(rt: &impl Abort, alloc: Global, host: Host, calls: &[Call], harm: Harm) -> u32 {
+    let (one, stops) = play_row(rt, alloc, host, calls, harm);
     let Played { rig, plain, .. } = one;
     let mut disks = disks_of(rt, rig);
     check_disks(rt, alloc, &mut disks, &plain);

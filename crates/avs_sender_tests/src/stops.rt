@@ -1,7 +1,7 @@
 // A stop at each write of a disk in a row of calls, and then what is found.
 
 use crate::lies::same;
-use crate::plays::play;
+use crate::plays::{play, play_row};
 use avs_dev::Tear;
 use avs_model::Host;
 use avs_sender_plain::calls::{Begin, Call, Put, Spot};
@@ -130,12 +130,15 @@ fn a_session_is_stopped_at_each_write(rt: HostRuntime) {
     each_stop(&rt, rt.alloc(), &session(), [3, 2, 2, 6, 6, 0]);
 }
 
-// A volume fails at each of its calls, also at those that read.
+// A volume fails at each of its calls, also at those that read, and the row makes no other.
 fn fails_on(rt: &impl Abort, alloc: Global, calls: &[Call], spot: Spot, count: u64) {
     for number in 0..count {
         let harm = Harm::Call(spot, number.saturating_add(1));
         same(rt, play(rt, alloc, Host::P, calls, harm), 1);
     }
+    let harm = Harm::Call(spot, count.saturating_add(1));
+    let (_, stops) = play_row(rt, alloc, Host::P, calls, harm);
+    same(rt, stops, 0);
 }
 
 #[test]
